@@ -64,13 +64,21 @@ bounded n moves bounds =
     next (holds (eqb (getD bounds 0 0) 0) (Bounds 0))
       (next (nowhere Bounds (lowest (badStep bounds) n)) (holds (eqb (getD bounds n 0) (length moves)) (Bounds n)))
 
--- 13: no state without a move, whose two bounds would be the same
-abbrev pub moving : ℕ → List ℕ → Answer
-moving n bounds = nowhere NoMove (lowest (λ s. eqb (getD bounds s 0) (getD bounds (s + 1) 0)) n)
+-- no move lies between the bounds of s
+abbrev pub still : List ℕ → ℕ → Bool
+still bounds s = eqb (getD bounds s 0) (getD bounds (s + 1) 0)
 
--- 14: no move to a number that is no state
+-- 13: no state without a move
+abbrev pub moving : ℕ → List ℕ → Answer
+moving n bounds = nowhere NoMove (lowest (still bounds) n)
+
+-- move i leads to a number that is no state
+abbrev pub astray : ℕ → List ℕ → ℕ → Bool
+astray n moves i = leb n (getD moves i 0)
+
+-- 14: no move leads astray
 abbrev pub aimed : ℕ → List ℕ → Answer
-aimed n moves = nowhere Target (lowest (λ i. leb n (getD moves i 0)) (length moves))
+aimed n moves = nowhere Target (lowest (astray n moves) (length moves))
 
 -- 15: some start
 abbrev pub begun : List ℕ → Answer

@@ -1,7 +1,7 @@
 -- What a flow means, and the limits that every flow keeps.
 use mathlib.Core.Path.{_≡_}
-use mathlib.Core.Bool.{Bool, true}
-use mathlib.Core.List.{List, []}
+use mathlib.Core.Bool.{Bool, true, false}
+use mathlib.Core.List.{List, [], _∷_}
 use Prim.Native.Nat.{ℕ, _<_, _≤_}
 use lib.ListN.{length, getD}
 
@@ -33,3 +33,10 @@ pub record Limits (m : Meaning) : Type 0 where
   pub start-below : (s : ℕ) → m .start s ≡ true → s < m .count
   pub some-start : (s : ℕ) × (m .start s ≡ true)
   pub label-below : (l s : ℕ) → m .label l s ≡ true → (l < 32) × (s < m .count)
+
+-- one state, which is a start and its own next state, without labels
+pub record Alone (m : Meaning) : Type 0 where
+  pub one : m .count ≡ 1
+  pub itself : m .nexts 0 ≡ 0 ∷ []
+  pub begins : m .start 0 ≡ true
+  pub bare : (l : ℕ) → m .label l 0 ≡ false

@@ -39,15 +39,19 @@ abbrev pub Sized : List ℕ → List ℕ → List ℕ → Type 0
 Sized labels starts bounds =
     (1 ≤ length labels) × (length labels ≤ 1024) × (length starts ≡ length labels) × (length bounds ≡ length labels + 1)
 
--- each state has 1 to 64 moves, which lie in the table of moves
-abbrev pub Bounded : List ℕ → List ℕ → List ℕ → Type 0
-Bounded labels moves bounds =
+-- the bounds neither fall nor lie over 64 apart, and stay within the moves
+abbrev pub Stepped : ℕ → List ℕ → List ℕ → Type 0
+Stepped n moves bounds =
     (s : ℕ)
-    → s < length labels
-    → (getD bounds s 0 < getD bounds (s + 1) 0)
+    → s < n
+    → (getD bounds s 0 ≤ getD bounds (s + 1) 0)
       × (getD bounds (s + 1) 0 ≤ getD bounds s 0 + 64)
       × (getD bounds (s + 1) 0 ≤ length moves)
 
+-- each state has a move
+abbrev pub Moving : ℕ → List ℕ → Type 0
+Moving n bounds = (s : ℕ) → s < n → getD bounds s 0 ≡ getD bounds (s + 1) 0 → ⊥
+
 -- each move leads to a state
-abbrev pub Aimed : List ℕ → List ℕ → Type 0
-Aimed labels moves = (i : ℕ) → i < length moves → getD moves i 0 < length labels
+abbrev pub Aimed : ℕ → List ℕ → Type 0
+Aimed n moves = (i : ℕ) → i < length moves → getD moves i 0 < n

@@ -1,4 +1,6 @@
 //! Why a flow is refused.
+ghost use mathlib.Core.Path.{_≡_};
+ghost use Rattle.flow.specs.Filling.{fillNumber, fillPlace};
 
 /// Why filling a table flow is refused. A place is a state or, for a target, an index into the moves.
 #[derive(Clone, Copy, Debug, PartialEq)]
@@ -13,4 +15,31 @@ pub enum FillFault {
     Target(usize),
     /// No state is a start.
     NoStart,
+}
+
+impl FillFault {
+    /// The number under which the refusal is documented.
+    pub fn number(self) -> u16
+        ensures { λ r. ⌜ r ≡ fillNumber self ⌝ }
+    {
+        match self {
+            FillFault::Sizes => 11,
+            FillFault::Bounds(_) => 12,
+            FillFault::NoMove(_) => 13,
+            FillFault::Target(_) => 14,
+            FillFault::NoStart => 15,
+        }
+    }
+
+    /// Where the fault stands; 0 where it is one of the tables as a whole.
+    pub fn place(self) -> usize
+        ensures { λ r. ⌜ r ≡ fillPlace self ⌝ }
+    {
+        match self {
+            FillFault::Bounds(s) => s,
+            FillFault::NoMove(s) => s,
+            FillFault::Target(i) => i,
+            FillFault::Sizes | FillFault::NoStart => 0,
+        }
+    }
 }

@@ -4,8 +4,11 @@ ghost use lib.ListN.{length, getD};
 ghost use Rattle.flow.specs.Meaning.{Meaning, Limits};
 
 mod faults;
+mod table_flow;
 
 pub use faults::FillFault;
+pub use table_flow::TableFlow;
+pub use table_flow::TableFlowFlow;
 
 /// A flow: a Kripke structure of at most 1,024 states, numbered from 0.
 ///
