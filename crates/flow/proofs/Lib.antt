@@ -1,2 +1,3 @@
 pub mod Lowests
 pub mod Accepted
+pub mod SeatWalk

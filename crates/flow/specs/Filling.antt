@@ -13,21 +13,6 @@ use Rattle.flow.specs.declared.faults.FillFault.the-variants.{Sizes, Bounds, N
 use Rattle.flow.specs.Lowest.{lowest}
 use Rattle.flow.specs.Tables.{someMarked}
 
--- the number of each fault, and its place
-abbrev pub fillNumber : FillFault → ℕ
-fillNumber Sizes = 11
-fillNumber (Bounds p) = 12
-fillNumber (NoMove p) = 13
-fillNumber (Target p) = 14
-fillNumber NoStart = 15
-
-abbrev pub fillPlace : FillFault → ℕ
-fillPlace Sizes = 0
-fillPlace (Bounds p) = p
-fillPlace (NoMove p) = p
-fillPlace (Target p) = p
-fillPlace NoStart = 0
-
 abbrev pub Answer : Type 0
 Answer = Result (Unit {0}) FillFault
 

@@ -1,6 +1,6 @@
 //! Why a flow is refused.
 ghost use mathlib.Core.Path.{_≡_};
-ghost use Rattle.flow.specs.Filling.{fillNumber, fillPlace};
+ghost use Rattle.flow.specs.Faults.{fillNumber, fillPlace, rowNumber};
 
 /// Why filling a table flow is refused. A place is a state or, for a target, an index into the moves.
 #[derive(Clone, Copy, Debug, PartialEq)]
@@ -40,6 +40,24 @@ impl FillFault {
             FillFault::NoMove(s) => s,
             FillFault::Target(i) => i,
             FillFault::Sizes | FillFault::NoStart => 0,
+        }
+    }
+}
+
+/// Why a row of seats is refused.
+#[derive(Clone, Copy, Debug, PartialEq)]
+pub enum RowFault {
+    /// Not 1 to 6 seats.
+    Seats,
+}
+
+impl RowFault {
+    /// The number under which the refusal is documented.
+    pub fn number(self) -> u16
+        ensures { λ r. ⌜ r ≡ rowNumber self ⌝ }
+    {
+        match self {
+            RowFault::Seats => 16,
         }
     }
 }

@@ -4,9 +4,19 @@ ghost use lib.ListN.{length, getD};
 ghost use Rattle.flow.specs.Meaning.{Meaning, Limits};
 
 mod faults;
+mod seat_row;
+mod seats;
 mod table_flow;
 
 pub use faults::FillFault;
+pub use faults::FillFaultDebug;
+pub use faults::FillFaultPartialEq;
+pub use faults::RowFault;
+pub use faults::RowFaultDebug;
+pub use faults::RowFaultPartialEq;
+pub use seat_row::SeatRow;
+pub use seat_row::SeatRowFlow;
+pub use seats::Seat;
 pub use table_flow::TableFlow;
 pub use table_flow::TableFlowFlow;
 
