@@ -25,7 +25,7 @@ rising xs n up (suc k) i e = le-trans (up i (omega arith)) (rising xs n up k (i 
 pub stepped : (n : ℕ) (ms bs : List ℕ) → None ≡ lowest (badStep bs) n → getD bs n 0 ≡ length ms → Stepped n ms bs
 stepped n ms bs none end s h =
     let step : (i : ℕ) → i < n → (leb (getD bs i 0) (getD bs (i + 1) 0) ≡ true) × (leb (getD bs (i + 1) 0) (getD bs i 0 + 64) ≡ true) =
-      λ i l. and-parts _ _ (not-false _ (none-passes (badStep bs) n none i l)) in
+    λ i l. and-parts _ _ (not-false _ (none-passes (badStep bs) n none i l)) in
     let up : (i : ℕ) → i < n → getD bs i 0 ≤ getD bs (i + 1) 0 = λ i l. leb-true _ _ (step i l .0) in
     (up s h, leb-true _ _ (step s h .1), omega (arith, rising bs n up (n - (s + 1)) (s + 1) (omega arith)))
 

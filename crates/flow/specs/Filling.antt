@@ -33,10 +33,10 @@ nowhere fault (Some p) = Err (fault p)
 abbrev pub sizes : List ℕ → List ℕ → List ℕ → Answer
 sizes labels starts bounds =
     holds
-      (leb 1 (length labels)
-        && (leb (length labels) 1024
-          && (eqb (length starts) (length labels) && eqb (length bounds) (length labels + 1))))
-      Sizes
+    (leb 1 (length labels)
+    && (leb (length labels) 1024
+    && (eqb (length starts) (length labels) && eqb (length bounds) (length labels + 1))))
+    Sizes
 
 -- the bounds at s fall, or lie over 64 apart
 abbrev pub badStep : List ℕ → ℕ → Bool
@@ -47,7 +47,7 @@ badStep bounds s =
 abbrev pub bounded : ℕ → List ℕ → List ℕ → Answer
 bounded n moves bounds =
     next (holds (eqb (getD bounds 0 0) 0) (Bounds 0))
-      (next (nowhere Bounds (lowest (badStep bounds) n)) (holds (eqb (getD bounds n 0) (length moves)) (Bounds n)))
+    (next (nowhere Bounds (lowest (badStep bounds) n)) (holds (eqb (getD bounds n 0) (length moves)) (Bounds n)))
 
 -- no move lies between the bounds of s
 abbrev pub still : List ℕ → ℕ → Bool
@@ -73,4 +73,4 @@ abbrev pub fillAnswer : List ℕ → List ℕ → List ℕ → List ℕ → Answ
 fillAnswer labels starts moves bounds =
     let n = length labels in
     next (sizes labels starts bounds)
-      (next (bounded n moves bounds) (next (moving n bounds) (next (aimed n moves) (begun starts))))
+    (next (bounded n moves bounds) (next (moving n bounds) (next (aimed n moves) (begun starts))))

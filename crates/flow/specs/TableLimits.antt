@@ -56,9 +56,9 @@ table-limits ls ss ms bs sized stepped moving aimed begun =
       few-states = sized .1;
       some-next = λ s h. omega (arith, deg s h, stepped s h, moving s h);
       few-nexts =
-        λ s. ⊎-elim (λ h. omega (arith, deg s h, stepped s h)) (λ h. omega (arith, none s h)) (cases-lt s (length ls));
+          λ s. ⊎-elim (λ h. omega (arith, deg s h, stepped s h)) (λ h. omega (arith, none s h)) (cases-lt s (length ls));
       next-below =
-        λ s k b. ⊎-elim
+          λ s k b. ⊎-elim
           (λ h. rw (nx s k h (omega (arith, deg s h))) (aimed (getD bs s 0 + k) (omega (arith, deg s h, stepped s h))))
           (λ h. absurd (omega (arith, none s h)))
           (cases-lt s (length ls));
@@ -66,7 +66,7 @@ table-limits ls ss ms bs sized stepped moving aimed begun =
       start-below = λ s e. ltb-true s (length ls) (and-parts (ltb s (length ls)) (marked ss s) e .0);
       some-start = (first .0, and-from (ltb (first .0) (length ls)) (marked ss (first .0)) (lt-ltb (first .0) (length ls) inside) (first .2));
       label-below =
-        λ l s e.
+          λ l s e.
           let p = and-parts (ltb s (length ls)) (bit (getD ls s 0) l) e in
           let q = and-parts (ltb l 32) (eqb ((getD ls s 0 / 2 ^ l) % 2) 1) (p .1) in
           (ltb-true l 32 (q .0), ltb-true s (length ls) (p .0));

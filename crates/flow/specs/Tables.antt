@@ -45,8 +45,8 @@ Stepped n moves bounds =
     (s : ℕ)
     → s < n
     → (getD bounds s 0 ≤ getD bounds (s + 1) 0)
-      × (getD bounds (s + 1) 0 ≤ getD bounds s 0 + 64)
-      × (getD bounds (s + 1) 0 ≤ length moves)
+    × (getD bounds (s + 1) 0 ≤ getD bounds s 0 + 64)
+    × (getD bounds (s + 1) 0 ≤ length moves)
 
 -- each state has a move
 abbrev pub Moving : ℕ → List ℕ → Type 0

@@ -36,7 +36,12 @@ impl<'a> TableFlow<'a> {
         ensures bounds { λ r. ⌜ behind (r .bounds) ≡ 0 ∷ 1 ∷ [] ⌝ }
         ensures meaning { λ r. ⌜ Alone (tableMeaning (behind (r .labels)) (behind (r .starts)) (behind (r .moves)) (behind (r .bounds))) ⌝ }
     {
-        TableFlow { labels: &[0], starts: &[1], moves: &[0], bounds: &[0, 1] }
+        TableFlow {
+            labels: &[0],
+            starts: &[1],
+            moves: &[0],
+            bounds: &[0, 1],
+        }
     }
 
     // How many moves lie between the bounds of `s`.
@@ -68,7 +73,11 @@ pub impl Flow for TableFlow<'_> as TableFlowFlow {
 
     fn degree(&self, s: u16) -> u16 {
         let s = s as usize;
-        if s >= self.labels.len() { 0 } else { self.move_count(s) }
+        if s >= self.labels.len() {
+            0
+        } else {
+            self.move_count(s)
+        }
     }
 
     fn next(&self, s: u16, k: u16) -> u16 {
@@ -76,7 +85,11 @@ pub impl Flow for TableFlow<'_> as TableFlowFlow {
         if s >= self.labels.len() {
             return 0;
         }
-        if k >= self.move_count(s) { 0 } else { self.move_at(s, k) }
+        if k >= self.move_count(s) {
+            0
+        } else {
+            self.move_at(s, k)
+        }
     }
 
     fn is_start(&self, s: u16) -> bool {

@@ -28,7 +28,15 @@ fn one_to_six_seats() -> Result<(), Fail> {
 fn moves_of_two_seats() -> Result<(), Fail> {
     let row = SeatRow::new(2)?;
     check_eq(row.degree(4), 4)?;
-    check_eq((row.next(4, 0), row.next(4, 1), row.next(4, 2), row.next(4, 3)), (3, 5, 1, 7))?;
+    check_eq(
+        (
+            row.next(4, 0),
+            row.next(4, 1),
+            row.next(4, 2),
+            row.next(4, 3),
+        ),
+        (3, 5, 1, 7),
+    )?;
     check_eq((row.degree(2), row.next(2, 0)), (1, 5))?;
     check_eq((row.degree(8), row.next(8, 0)), (1, 8))?;
     check_eq((row.degree(0), row.next(0, 0), row.next(0, 1)), (2, 1, 3))
@@ -37,10 +45,22 @@ fn moves_of_two_seats() -> Result<(), Fail> {
 #[test]
 fn labels_of_two_seats() -> Result<(), Fail> {
     let row = SeatRow::new(2)?;
-    check_eq((row.carries(0, 0), row.carries(0, 1), row.carries(0, 2)), (true, false, false)).note("both free")?;
-    check_eq((row.carries(5, 0), row.carries(5, 1), row.carries(5, 2)), (false, true, false)).note("sold, held")?;
-    check_eq((row.carries(6, 0), row.carries(6, 1), row.carries(6, 2)), (true, false, false)).note("free, sold")?;
-    check_eq((row.carries(8, 0), row.carries(8, 1), row.carries(8, 2)), (false, false, true)).note("both sold")
+    check_eq(
+        (row.carries(0, 0), row.carries(0, 1), row.carries(0, 2)),
+        (true, false, false),
+    ).note("both free")?;
+    check_eq(
+        (row.carries(5, 0), row.carries(5, 1), row.carries(5, 2)),
+        (false, true, false),
+    ).note("sold, held")?;
+    check_eq(
+        (row.carries(6, 0), row.carries(6, 1), row.carries(6, 2)),
+        (true, false, false),
+    ).note("free, sold")?;
+    check_eq(
+        (row.carries(8, 0), row.carries(8, 1), row.carries(8, 2)),
+        (false, false, true),
+    ).note("both sold")
 }
 
 #[test]
@@ -57,7 +77,10 @@ fn beyond_the_range() -> Result<(), Fail> {
     let row = SeatRow::new(2)?;
     check_eq((row.degree(9), row.degree(u16::MAX)), (0, 0))?;
     check_eq((row.next(9, 0), row.next(4, 4), row.next(8, 1)), (0, 0, 0))?;
-    check_eq((row.carries(9, 0), row.carries(0, 3), row.carries(0, 32)), (false, false, false))
+    check_eq(
+        (row.carries(9, 0), row.carries(0, 3), row.carries(0, 32)),
+        (false, false, false),
+    )
 }
 
 // Six held seats: the most next states that a row has.

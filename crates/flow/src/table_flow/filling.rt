@@ -21,7 +21,13 @@ const MOST_MOVES: u32 = 64;
 
 impl<'a> TableFlow<'a> {
     /// Takes the tables in place of its own, or refuses and stays as it is.
-    pub fn fill(&mut self, labels: &'a [u32], starts: &'a [u8], moves: &'a [u16], bounds: &'a [u32]) -> Result<(), FillFault>
+    pub fn fill(
+        &mut self,
+        labels: &'a [u32],
+        starts: &'a [u8],
+        moves: &'a [u16],
+        bounds: &'a [u32],
+    ) -> Result<(), FillFault>
         ensures value { λ r. ⌜ r ≡ fillAnswer (now (labels .entry)) (now (starts .entry)) (now (moves .entry)) (now (bounds .entry)) ⌝ }
         ensures after { λ r. ⌜ elim r [ Ok _ ↦ (behind (now (self .exit) .labels) ≡ now (labels .entry)) × (behind (now (self .exit) .starts) ≡ now (starts .entry)) × (behind (now (self .exit) .moves) ≡ now (moves .entry)) × (behind (now (self .exit) .bounds) ≡ now (bounds .entry)) | Err _ ↦ now (self .exit) ≡ now (self .entry) ] ⌝ }
     {
@@ -31,7 +37,12 @@ impl<'a> TableFlow<'a> {
         check_moves(bounds, n)?;
         check_targets(moves, n)?;
         check_starts(starts)?;
-        *self = TableFlow { labels, starts, moves, bounds };
+        *self = TableFlow {
+            labels,
+            starts,
+            moves,
+            bounds,
+        };
         Ok(())
     }
 }

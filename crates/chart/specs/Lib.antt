@@ -1,0 +1,2 @@
+pub mod Chart
+pub mod Counts
