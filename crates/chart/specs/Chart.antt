@@ -3,6 +3,8 @@ use mathlib.Core.Bool.{Bool, cond}
 use mathlib.Core.List.{List, [], _∷_, _++_}
 use Prim.Native.Nat.{ℕ, zero, suc, _+_}
 use lib.Chars.{codes}
+use lib.Dec.{ltb}
+use lib.ListN.{length, getD}
 use Rattle.std.specs.Written.{decimal}
 use Rattle.flow.specs.Meaning.{Meaning}
 
@@ -10,10 +12,14 @@ use Rattle.flow.specs.Meaning.{Meaning}
 abbrev pub startWord : Bool → List ℕ
 startWord start = cond start (codes " start") []
 
--- a space and a name for each label that s carries, where the names begin at label l
-abbrev pub labelWords : Meaning → ℕ → ℕ → List (List ℕ) → List ℕ
-labelWords m s l [] = []
-labelWords m s l (name ∷ names) = cond (m .label l s) (codes " " ++ name) [] ++ labelWords m s (l + 1) names
+-- entry l of the names, or the number of the label where it has no name
+abbrev pub nameOf : List (List ℕ) → ℕ → List ℕ
+nameOf names l = cond (ltb l (length names)) (getD names l []) (decimal l)
+
+-- a space and a name for each of the k labels from l on that s carries
+abbrev pub labelWords : Meaning → List (List ℕ) → ℕ → ℕ → ℕ → List ℕ
+labelWords m names s l zero = []
+labelWords m names s l (suc k) = cond (m .label l s) (codes " " ++ nameOf names l) [] ++ labelWords m names s (l + 1) k
 
 -- a space and a number for each next state
 abbrev pub nextWords : List ℕ → List ℕ
@@ -25,7 +31,7 @@ abbrev pub stateLine : Meaning → List (List ℕ) → ℕ → List ℕ
 stateLine m names s =
     decimal s
     ++ (startWord (m .start s)
-    ++ (labelWords m s 0 names ++ (codes " ->" ++ (nextWords (m .nexts s) ++ (10 ∷ [])))))
+    ++ (labelWords m names s 0 32 ++ (codes " ->" ++ (nextWords (m .nexts s) ++ (10 ∷ [])))))
 
 -- the lines of the k states from s on
 abbrev pub linesFrom : Meaning → List (List ℕ) → ℕ → ℕ → List ℕ

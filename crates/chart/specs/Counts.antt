@@ -21,10 +21,10 @@ startAt m s = cond (m .start s) 1 0
 abbrev pub movesAt : Meaning → ℕ → ℕ
 movesAt m s = length (m .nexts s)
 
--- how many states, starts and moves a flow has
+-- one flow, with how many states, starts and moves it has
 abbrev pub tallyOf : Meaning → Tally
 tallyOf m =
-    record { states = m .count; starts = sumFrom (startAt m) 0 (m .count); moves = sumFrom (movesAt m) 0 (m .count) }
+    record { flows = 1; states = m .count; starts = sumFrom (startAt m) 0 (m .count); moves = sumFrom (movesAt m) 0 (m .count) }
 
 -- a sum that stops at the largest number of 32 bits
 abbrev pub capped : ℕ → ℕ → ℕ
@@ -34,15 +34,16 @@ capped a b = min (a + b) (2 ^ 32 - 1)
 abbrev pub bothOf : Tally → Tally → Tally
 bothOf a b =
     record {
+      flows = capped (a .flows) (b .flows);
       states = capped (a .states) (b .states);
       starts = capped (a .starts) (b .starts);
       moves = capped (a .moves) (b .moves);
     }
 
 -- the line of the counts of some flows
-abbrev pub countLine : ℕ → Tally → List ℕ
-countLine flows t =
-    decimal flows
+abbrev pub countLine : Tally → List ℕ
+countLine t =
+    decimal (t .flows)
     ++ (codes " flows, "
     ++ (decimal (t .states)
     ++ (codes " states, "

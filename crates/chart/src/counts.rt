@@ -7,8 +7,9 @@ use std::alloc::AllocError;
 use std::alloc::Global;
 
 /// The counts of a flow, or of several together.
-#[derive(Clone, Copy)]
+#[derive(Clone, Copy, Debug, PartialEq)]
 pub struct Tally {
+    pub flows: u32,
     pub states: u32,
     pub starts: u32,
     pub moves: u32,
@@ -20,6 +21,7 @@ impl Tally {
         ensures { λ r. ⌜ r ≡ bothOf self other ⌝ }
     {
         Tally {
+            flows: self.flows.saturating_add(other.flows),
             states: self.states.saturating_add(other.states),
             starts: self.starts.saturating_add(other.starts),
             moves: self.moves.saturating_add(other.moves),
@@ -27,15 +29,16 @@ impl Tally {
     }
 }
 
-/// The line `{flows} flows, {states} states, {starts} starts, {moves} moves`. The error is want of memory.
-pub fn count_line(heap: Global, flows: u32, t: &Tally) -> Result<String, AllocError>
-    ensures { λ r. ⌜ made r (λ line. string-bytes line ≡ countLine flows (now (t .entry))) ⌝ }
+/// The line `{flows} flows, {states} states, {starts} starts, {moves} moves`. An error stands for want of memory.
+pub fn count_line(heap: Global, tally: Tally) -> Result<String, AllocError>
+    ensures { λ r. ⌜ made r (λ line. string-bytes line ≡ countLine tally) ⌝ }
 {
     let Tally {
+        flows,
         states,
         starts,
         moves,
-    } = *t;
+    } = tally;
     format!(
         heap,
         "{flows} flows, {states} states, {starts} starts, {moves} moves\n"

@@ -1,17 +1,18 @@
 //! The chart of any flow, as text: a line for each state, and a line of counts.
 ghost use mathlib.Core.Path.{_≡_};
 ghost use mathlib.Core.List.{_++_, map};
-ghost use Prim.Native.Nat.{min};
-ghost use lib.ListN.{length};
+ghost use lib.Chars.{codes};
 ghost use denote.Ref.{now as behind};
 ghost use Rattle.std.specs.Of.String.{string-bytes};
 ghost use Rattle.std.specs.Vec.{made};
-ghost use Rattle.chart.specs.Chart.{startWord, labelWords, nextWords, stateLine, chartOf};
+ghost use Rattle.chart.specs.Chart.{startWord, nameOf, labelWords, nextWords, stateLine, chartOf};
 
 mod counts;
 mod sums;
 
 pub use counts::Tally;
+pub use counts::TallyDebug;
+pub use counts::TallyPartialEq;
 pub use counts::count_line;
 use flow::Flow;
 use std::alloc::AllocError;
@@ -30,25 +31,25 @@ fn put_nexts<F: Flow>(out: &mut String, flow: &F, s: u16) -> fmt::Result
     Ok(())
 }
 
-// How many labels have a name: labels end at 31, so that later names say nothing.
-fn named(names: &[&str]) -> u8
-    ensures { λ r. ⌜ r ≡ min (length (now (names .entry))) 32 ⌝ }
+// A space and the name of the label `l`, or its number where it has no name.
+fn put_label(out: &mut String, names: &[&str], l: u8) -> fmt::Result
+    ensures { λ r. ⌜ made r (λ _. string-bytes (now (out .exit)) ≡ string-bytes (now (out .entry)) ++ (codes " " ++ nameOf (map behind (now (names .entry))) l)) ⌝ }
 {
-    if names.len() < 32 {
-        names.len() as u8
+    if (l as usize) < names.len() {
+        let name = names[l as usize];
+        write!(out, " {name}")
     } else {
-        32
+        write!(out, " {l}")
     }
 }
 
 // A space and the name of each label that `s` carries.
 fn put_labels<F: Flow>(out: &mut String, flow: &F, names: &[&str], s: u16) -> fmt::Result
-    ensures { λ r. ⌜ made r (λ _. string-bytes (now (out .exit)) ≡ string-bytes (now (out .entry)) ++ labelWords (F·Flow .meaning (now (flow .entry))) s 0 (map behind (now (names .entry)))) ⌝ }
+    ensures { λ r. ⌜ made r (λ _. string-bytes (now (out .exit)) ≡ string-bytes (now (out .entry)) ++ labelWords (F·Flow .meaning (now (flow .entry))) (map behind (now (names .entry))) s 0 32) ⌝ }
 {
-    for l in 0..named(names) {
+    for l in 0..32 {
         if flow.carries(s, l) {
-            let name = names[l as usize];
-            write!(out, " {name}")?;
+            put_label(out, names, l)?;
         }
     }
     Ok(())
@@ -84,8 +85,8 @@ fn put_lines<F: Flow>(out: &mut String, flow: &F, names: &[&str]) -> fmt::Result
 
 /// The chart of a flow: a line for each state, as `1 start held -> 0 2`.
 ///
-/// The line has the state's number, ` start` where it is one, the names of the labels that it carries, and its next
-/// states. Entry `l` of `names` names label `l`, and labels with no name are left out. The error is want of memory.
+/// The line has the state's number, ` start` where it is one, the labels that it carries, and its next states. Entry `l`
+/// of `names` names label `l`; a label without a name is shown by its number. An error stands for want of memory.
 pub fn chart<F: Flow>(heap: Global, flow: &F, names: &[&str]) -> Result<String, AllocError>
     ensures { λ r. ⌜ made r (λ t. string-bytes t ≡ chartOf (F·Flow .meaning (now (flow .entry))) (map behind (now (names .entry)))) ⌝ }
 {

@@ -31,6 +31,7 @@ pub fn tally<F: Flow>(flow: &F) -> Tally
     ensures { λ r. ⌜ r ≡ tallyOf (F·Flow .meaning (now (flow .entry))) ⌝ }
 {
     Tally {
+        flows: 1,
         states: flow.count() as u32,
         starts: starts(flow),
         moves: moves(flow),

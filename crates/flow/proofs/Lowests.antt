@@ -1,10 +1,9 @@
 -- The steps of a loop that looks for the lowest number that passes a test.
 use mathlib.Core.Path.{_≡_, ap, _∙_}
 use mathlib.Core.Bool.{Bool, true, false, cond}
-use Prim.Native.Nat.{ℕ, suc, _+_, _-_, _<_, _≤_}
+use Prim.Native.Nat.{ℕ, suc, _+_, _-_, _<_}
 use native.Mathlib.Omega.{arith}
-use Rattle.std.specs.declared.option.Option.{Option}
-use Rattle.std.specs.declared.option.Option.the-variants.{Some, None}
+use Rattle.std.specs.declared.option.Option.the-variants.{Some}
 use Rattle.flow.specs.Lowest.{lowestFrom}
 
 -- the number at hand, and then those after it
@@ -18,6 +17,3 @@ lowest-here f n i h e = at f n i true h e
 
 pub lowest-more : (f : ℕ → Bool) (n i : ℕ) → i < n → f i ≡ false → lowestFrom f i (n - i) ≡ lowestFrom f (i + 1) (n - (i + 1))
 lowest-more f n i h e = at f n i false h e
-
-pub lowest-none : (f : ℕ → Bool) (n i : ℕ) → n ≤ i → lowestFrom f i (n - i) ≡ None
-lowest-none f n i h = let k : n - i ≡ 0 = omega arith in ap (lowestFrom f i) k

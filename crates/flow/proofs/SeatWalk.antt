@@ -12,8 +12,8 @@ use lib.ListN.{length, getD}
 use lib.Pow.{pow-add}
 use Rattle.std.proofs.shelf.Lists.{map-append, length-append, length-map, getD-append-left, getD-append-right, getD-map}
 use Rattle.std.proofs.shelf.Tests.{and-right, eq-eqb, ne-eqb}
-use Rattle.flow.specs.declared.seats.Seat.{Seat}
-use Rattle.flow.specs.declared.seats.Seat.the-variants.{Free, Held, Sold}
+use Rattle.flow.specs.declared.seat.Seat.{Seat}
+use Rattle.flow.specs.declared.seat.Seat.the-variants.{Free, Held, Sold}
 use Rattle.flow.specs.SeatLimits.{nexts-in, power-some}
 use Rattle.flow.specs.Seats.{seatOf, digitOf, seatsOf, stateOf, becomes, changed, orItself, rowMeaning, same, someSeat, allSeats}
 

@@ -1,5 +1,5 @@
 -- What filling a table flow answers: the first of the faults, by rising number, or acceptance.
-use mathlib.Core.Bool.{Bool, true, false, cond, not, _&&_}
+use mathlib.Core.Bool.{Bool, cond, not, _&&_}
 use mathlib.Core.List.{List}
 use Prim.Native.Nat.{ℕ, _+_}
 use lib.Dec.{leb, eqb}
@@ -17,9 +17,9 @@ abbrev pub Answer : Type 0
 Answer = Result (Unit {0}) FillFault
 
 -- one check after another: the first refusal stands
-abbrev pub next : Answer → Answer → Answer
-next (Ok u) later = later
-next (Err e) later = Err e
+abbrev pub then : Answer → Answer → Answer
+then (Ok u) later = later
+then (Err e) later = Err e
 
 abbrev pub holds : Bool → FillFault → Answer
 holds b e = cond b (Ok tt) (Err e)
@@ -46,8 +46,8 @@ badStep bounds s =
 -- 12: from 0; then neither falling nor over 64 apart; then ending at the count of moves
 abbrev pub bounded : ℕ → List ℕ → List ℕ → Answer
 bounded n moves bounds =
-    next (holds (eqb (getD bounds 0 0) 0) (Bounds 0))
-    (next (nowhere Bounds (lowest (badStep bounds) n)) (holds (eqb (getD bounds n 0) (length moves)) (Bounds n)))
+    then (holds (eqb (getD bounds 0 0) 0) (Bounds 0))
+    (then (nowhere Bounds (lowest (badStep bounds) n)) (holds (eqb (getD bounds n 0) (length moves)) (Bounds n)))
 
 -- no move lies between the bounds of s
 abbrev pub still : List ℕ → ℕ → Bool
@@ -72,5 +72,5 @@ begun starts = holds (someMarked starts) NoStart
 abbrev pub fillAnswer : List ℕ → List ℕ → List ℕ → List ℕ → Answer
 fillAnswer labels starts moves bounds =
     let n = length labels in
-    next (sizes labels starts bounds)
-    (next (bounded n moves bounds) (next (moving n bounds) (next (aimed n moves) (begun starts))))
+    then (sizes labels starts bounds)
+    (then (bounded n moves bounds) (then (moving n bounds) (then (aimed n moves) (begun starts))))

@@ -17,10 +17,6 @@ pub record Meaning : Type 0 where
   pub start : Set
   pub label : ℕ → Set
 
--- there is a move from s to t: t stands in the list of next states of s
-abbrev pub Move : Meaning → ℕ → ℕ → Type 0
-Move m s t = (k : ℕ) × (k < length (m .nexts s)) × (getD (m .nexts s) k 0 ≡ t)
-
 -- 1 to 1,024 states; each has 1 to 64 next states, which are states; a start, and starts are states;
 -- labels 0 to 31, at states only
 pub record Limits (m : Meaning) : Type 0 where

@@ -10,8 +10,8 @@ use lib.Dec.{ltb, lit≤}
 use lib.ListN.{length, getD, length-append, length-map}
 use Rattle.std.proofs.shelf.Tests.{both-ways, cases-lt, lt-ltb, le-ltb, ltb-true, ne-eqb, eqb-true, and-parts}
 use Rattle.std.proofs.shelf.Lists.{getD-past}
-use Rattle.flow.specs.declared.seats.Seat.{Seat}
-use Rattle.flow.specs.declared.seats.Seat.the-variants.{Free, Held, Sold}
+use Rattle.flow.specs.declared.seat.Seat.{Seat}
+use Rattle.flow.specs.declared.seat.Seat.the-variants.{Free, Held, Sold}
 use Rattle.flow.specs.Meaning.{Limits}
 use Rattle.flow.specs.Seats.{digitOf, seatsOf, stateOf, becomes, changed, orItself, rowNexts, rowLabel, rowMeaning}
 

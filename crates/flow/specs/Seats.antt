@@ -3,8 +3,8 @@ use mathlib.Core.Bool.{Bool, true, false, cond, _&&_, _||_}
 use mathlib.Core.List.{List, [], _∷_, _++_, map}
 use Prim.Native.Nat.{ℕ, zero, suc, _+_, _*_, _/_, _%_, _^_}
 use lib.Dec.{ltb, leb, eqb}
-use Rattle.flow.specs.declared.seats.Seat.{Seat}
-use Rattle.flow.specs.declared.seats.Seat.the-variants.{Free, Held, Sold}
+use Rattle.flow.specs.declared.seat.Seat.{Seat}
+use Rattle.flow.specs.declared.seat.Seat.the-variants.{Free, Held, Sold}
 use Rattle.flow.specs.Meaning.{Meaning}
 
 -- a seat by its base-3 digit, and the digit of a seat

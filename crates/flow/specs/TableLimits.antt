@@ -1,7 +1,7 @@
 -- What the four tables give at a state, and that tables that keep their limits mean a flow that keeps its own.
-use mathlib.Core.Path.{_≡_, refl, sym, ap, _∙_}
+use mathlib.Core.Path.{_≡_, ap, _∙_}
 use mathlib.Core.List.{List, []}
-use mathlib.Core.Bool.{Bool, true, false, cond, not, _&&_}
+use mathlib.Core.Bool.{Bool, true, false, cond}
 use mathlib.Core.Logic.{⊎-elim}
 use Prim.Native.Nat.{ℕ, _+_, _-_, _/_, _%_, _^_, _<_, _≤_}
 use native.Mathlib.Omega.{arith}
@@ -13,7 +13,7 @@ use Rattle.std.proofs.shelf.Edits.{length-between, getD-between}
 use Rattle.std.specs.Options.{isSome}
 use Rattle.std.specs.declared.option.Option.{Option}
 use Rattle.std.specs.declared.option.Option.the-variants.{Some, None}
-use Rattle.flow.specs.Meaning.{Meaning, Limits}
+use Rattle.flow.specs.Meaning.{Limits}
 use Rattle.flow.specs.Lowest.{lowest, Lowest, lowest-is}
 use Rattle.flow.specs.Tables.{movesOf, bit, marked, someMarked, tableMeaning, Sized, Stepped, Moving, Aimed}
 
@@ -33,9 +33,6 @@ module _ (ls ss ms bs : List ℕ) (stepped : Stepped (length ls) ms bs) where
 
   pub next-past : (s k : ℕ) → s < length ls → getD bs (s + 1) 0 - getD bs s 0 ≤ k → getD (tableMeaning ls ss ms bs .nexts s) k 0 ≡ 0
   next-past s k h b = getD-past (tableMeaning ls ss ms bs .nexts s) k 0 (omega (arith, degree-is s h))
-
-pub label-is : (ls ss ms bs : List ℕ) (l s : ℕ) → l < 32 → s < length ls → tableMeaning ls ss ms bs .label l s ≡ eqb ((getD ls s 0 / 2 ^ l) % 2) 1
-label-is ls ss ms bs l s k h = let a = lt-ltb s (length ls) h in let b = lt-ltb l 32 k in simp (a, b)
 
 -- the marked entry that the lowest one is
 found : (f : ℕ → Bool) (n : ℕ) (o : Option ℕ) → Lowest f n o → isSome o ≡ true → (s : ℕ) × (s < n) × (f s ≡ true)

@@ -4,8 +4,8 @@ ghost use lib.ListN.{length, getD};
 ghost use Rattle.flow.specs.Meaning.{Meaning, Limits};
 
 mod faults;
+mod seat;
 mod seat_row;
-mod seats;
 mod table_flow;
 
 pub use faults::FillFault;
@@ -16,7 +16,6 @@ pub use faults::RowFaultDebug;
 pub use faults::RowFaultPartialEq;
 pub use seat_row::SeatRow;
 pub use seat_row::SeatRowFlow;
-pub use seats::Seat;
 pub use table_flow::TableFlow;
 pub use table_flow::TableFlowFlow;
 
@@ -42,6 +41,7 @@ pub trait Flow {
     fn next(&self, s: u16, k: u16) -> u16
         ensures { λ r. ⌜ r ≡ getD (meaning (now (self .entry)) .nexts s) k 0 ⌝ };
 
+    /// Whether a listing may begin in `s`.
     fn is_start(&self, s: u16) -> bool
         ensures { λ r. ⌜ r ≡ meaning (now (self .entry)) .start s ⌝ };
 

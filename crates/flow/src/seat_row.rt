@@ -1,4 +1,4 @@
-//! The row as a flow.
+//! A flow whose states are the rows of some seats.
 ghost use mathlib.Core.Path.{_≡_};
 ghost use mathlib.Core.Bool.{true, false};
 ghost use Prim.Native.Nat.{_+_, _*_, _/_, _%_, _^_, _<_, _≤_};
@@ -8,13 +8,13 @@ ghost use Rattle.flow.specs.Seats.{seatOf, digitOf, seatsOf, someSeat, rowSize
 ghost use Rattle.flow.specs.SeatLimits.{row-limits};
 use crate::Flow;
 use crate::faults::RowFault;
-use crate::seats::Seat;
-use crate::seats::SeatPartialEq;
+use crate::seat::Seat;
+use crate::seat::SeatPartialEq;
 
-/// 3 to the power of `i` is how many states a row of `i` seats has, and how much seat `i` counts in a state.
+// 3 to the power of `i` is how many states a row of `i` seats has, and how much seat `i` counts in a state.
 const POWERS: [u16; 7] = [1, 3, 9, 27, 81, 243, 729];
 
-/// The `i`-th power of 3.
+// The `i`-th power of 3.
 fn power(i: u8) -> u16
     requires { ⌜ i ≤ 6 ⌝ }
     ensures value { λ r. ⌜ r ≡ 3 ^ i ⌝ }
@@ -23,7 +23,7 @@ fn power(i: u8) -> u16
     POWERS[i as usize]
 }
 
-/// Seat `i` of the state `s`.
+// Seat `i` of the state `s`.
 fn seat_at(s: u16, i: u8) -> Seat
     requires { ⌜ i ≤ 6 ⌝ }
     ensures { λ r. ⌜ r ≡ seatOf ((s / 3 ^ i) % 3) ⌝ }
@@ -35,7 +35,7 @@ fn seat_at(s: u16, i: u8) -> Seat
     }
 }
 
-/// The state `s` with `seat` in place of its seat `i`.
+// The state `s` with `seat` in place of its seat `i`.
 fn with_seat(s: u16, i: u8, seat: Seat) -> u16
     requires below { ⌜ s < 729 ⌝ }
     requires within { ⌜ i ≤ 6 ⌝ }
@@ -56,6 +56,7 @@ pub struct SeatRow {
 }
 
 impl SeatRow {
+    /// A row of `seats` seats, all free at the start.
     pub fn new(seats: u8) -> Result<SeatRow, RowFault>
         ensures { λ r. ⌜ elim r [ Ok row ↦ (rowSize seats ≡ true) × (row .seats ≡ seats) | Err e ↦ (rowSize seats ≡ false) × (e ≡ Seats) ] ⌝ }
     {
@@ -65,7 +66,7 @@ impl SeatRow {
         Ok(SeatRow { seats })
     }
 
-    /// Whether some seat of the state `s` is as `seat`.
+    // Whether some seat of the state `s` is as `seat`.
     fn some_seat(&self, s: u16, seat: Seat) -> bool
         ensures { λ r. ⌜ r ≡ someSeat seat (seatsOf (now (self .entry) .seats) s) ⌝ }
     {
@@ -108,7 +109,7 @@ pub impl Flow for SeatRow as SeatRowFlow {
             let seat = seat_at(s, i);
             let here = seat.ways();
             if left < here {
-                return with_seat(s, i, seat.changed(left));
+                return with_seat(s, i, seat.nth_change(left));
             }
             left -= here;
         }

@@ -1,5 +1,7 @@
-//! Examples of flows: the ticket flow, rows of seats, every refusal and every limit.
+//! Examples of flows and charts: the ticket flow, rows of seats, every refusal and every limit.
 
+#[cfg(test)]
+mod charts;
 #[cfg(test)]
 mod seat_rows;
 #[cfg(test)]

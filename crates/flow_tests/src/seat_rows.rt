@@ -1,6 +1,5 @@
 //! Rows of seats: their states, moves and labels.
 use flow::Flow;
-use flow::RowFault;
 use flow::RowFaultDebug;
 use flow::SeatRow;
 use flow::SeatRowFlow;

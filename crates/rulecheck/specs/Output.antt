@@ -8,7 +8,7 @@ use Rattle.flow.specs.Seats.{rowMeaning}
 use Rattle.chart.specs.Chart.{chartOf}
 use Rattle.chart.specs.Counts.{tallyOf, bothOf, countLine}
 
--- a ticket: state 0 is free and the start, 1 held, 2 sold; label 0 is `held`, label 1 is `sold`
+-- the tables of the ticket flow
 abbrev pub ticketMeaning : Meaning
 ticketMeaning = tableMeaning (0 ∷ 1 ∷ 2 ∷ []) (1 ∷ 0 ∷ 0 ∷ []) (1 ∷ 0 ∷ 2 ∷ 2 ∷ []) (0 ∷ 1 ∷ 3 ∷ 4 ∷ [])
 
@@ -24,4 +24,4 @@ output =
     pageOf
     (chartOf ticketMeaning (codes "held" ∷ codes "sold" ∷ []))
     (chartOf twoSeats (codes "free" ∷ codes "held" ∷ codes "sold" ∷ []))
-    (countLine 2 (bothOf (tallyOf ticketMeaning) (tallyOf twoSeats)))
+    (countLine (bothOf (tallyOf ticketMeaning) (tallyOf twoSeats)))

@@ -4,6 +4,9 @@ ghost use mathlib.Core.List.{[], _∷_};
 ghost use mathlib.Core.Path.{_≡_};
 ghost use Rattle.std.specs.Of.String.{string-bytes};
 ghost use Rattle.std.specs.Vec.{made};
+ghost use Rattle.flow.specs.Seats.{rowMeaning};
+ghost use Rattle.flow.specs.Tables.{tableMeaning};
+ghost use Rattle.rulecheck.specs.Examples.{Ticket, TwoSeats};
 ghost use Rattle.rulecheck.specs.Output.{pageOf, output};
 use chart::chart;
 use chart::count_line;
@@ -16,12 +19,13 @@ use std::alloc::AllocError;
 use std::alloc::Global;
 use std::error::AnyError;
 
-/// A ticket: state 0 is free and the start, 1 held, 2 sold; label 0 is `held`, label 1 is `sold`.
+// A ticket: state 0 is free and the start, 1 held, 2 sold; label 0 is `held`, label 1 is `sold`.
 fn ticket() -> TableFlow<'static>
     ensures labels { λ r. ⌜ behind (r .labels) ≡ 0 ∷ 1 ∷ 2 ∷ [] ⌝ }
     ensures starts { λ r. ⌜ behind (r .starts) ≡ 1 ∷ 0 ∷ 0 ∷ [] ⌝ }
     ensures moves { λ r. ⌜ behind (r .moves) ≡ 1 ∷ 0 ∷ 2 ∷ 2 ∷ [] ⌝ }
     ensures bounds { λ r. ⌜ behind (r .bounds) ≡ 0 ∷ 1 ∷ 3 ∷ 4 ∷ [] ⌝ }
+    ensures drawn { λ r. ⌜ Ticket (tableMeaning (behind (r .labels)) (behind (r .starts)) (behind (r .moves)) (behind (r .bounds))) ⌝ }
 {
     let mut flow = TableFlow::fresh();
     match flow.fill(&[0, 1, 2], &[1, 0, 0], &[1, 0, 2, 2], &[0, 1, 3, 4]) {
@@ -31,9 +35,10 @@ fn ticket() -> TableFlow<'static>
     }
 }
 
-/// A row of two seats.
+// A row of two seats.
 fn two_seats() -> SeatRow
-    ensures { λ r. ⌜ r .seats ≡ 2 ⌝ }
+    ensures seats { λ r. ⌜ r .seats ≡ 2 ⌝ }
+    ensures drawn { λ r. ⌜ TwoSeats (rowMeaning (r .seats)) ⌝ }
 {
     match SeatRow::new(2) {
         Ok(row) => row,
@@ -41,7 +46,7 @@ fn two_seats() -> SeatRow
     }
 }
 
-/// Both charts, and the line that counts them. The error is want of memory.
+// Both charts, and the line that counts them. An error stands for want of memory.
 fn charts(heap: Global) -> Result<String, AllocError>
     ensures { λ r. ⌜ made r (λ t. string-bytes t ≡ output) ⌝ }
 {
@@ -49,11 +54,11 @@ fn charts(heap: Global) -> Result<String, AllocError>
     let row = two_seats();
     let tickets = chart(heap, &ticket, &["held", "sold"])?;
     let seats = chart(heap, &row, &["free", "held", "sold"])?;
-    let counts = count_line(heap, 2, &tally(&ticket).plus(tally(&row)))?;
+    let counts = count_line(heap, tally(&ticket).plus(tally(&row)))?;
     page(heap, tickets.as_str(), seats.as_str(), counts.as_str())
 }
 
-/// The charts under their titles, and the counts. The error is want of memory.
+// The charts under their titles, and the counts. An error stands for want of memory.
 fn page(heap: Global, tickets: &str, seats: &str, counts: &str) -> Result<String, AllocError>
     ensures { λ r. ⌜ made r (λ t. string-bytes t ≡ pageOf (now (tickets .entry)) (now (seats .entry)) (now (counts .entry))) ⌝ }
 {

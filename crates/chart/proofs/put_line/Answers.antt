@@ -15,7 +15,7 @@ returns g c =
     let s = c .args .s in
     made-weaker (c .writeln .result) _ _
     (λ _ e. put-six (string-bytes (c .args .out .now)) (decimal s) (startWord (m .start s))
-    (labelWords m s 0 (map now (c .args .names .now))) (codes " ->") (nextWords (m .nexts s)) (10 ∷ [])
+    (labelWords m (map now (c .args .names .now)) s 0 32) (codes " ->") (nextWords (m .nexts s)) (10 ∷ [])
     (c .start-mark-mark .ensures ∙ ap startWord (c .is-start .ensures))
     (c .in-Continue-write .ensures tt .bytes)
     (c .in-Continue-put-labels .ensures tt)

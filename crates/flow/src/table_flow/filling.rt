@@ -2,7 +2,7 @@
 ghost use denote.Ref.{now as behind};
 ghost use mathlib.Core.Bool.{_&&_, true};
 ghost use mathlib.Core.Path.{_≡_};
-ghost use Prim.Native.Nat.{ℕ, _+_, _<_, _≤_};
+ghost use Prim.Native.Nat.{_+_};
 ghost use lib.Dec.{leb};
 ghost use lib.ListN.{length};
 ghost use Rattle.std.specs.Results.{isOk};
@@ -13,10 +13,10 @@ ghost use Rattle.flow.specs.Filling.{sizes, badStep, bounded, still, moving, a
 use super::TableFlow;
 use crate::FillFault;
 
-/// The most states that a flow may have.
+// The most states that a flow may have.
 const MOST_STATES: usize = 1024;
 
-/// The most moves that a state may have.
+// The most moves that a state may have.
 const MOST_MOVES: u32 = 64;
 
 impl<'a> TableFlow<'a> {

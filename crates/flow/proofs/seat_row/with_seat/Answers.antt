@@ -2,7 +2,7 @@ use mathlib.Core.Path.{_≡_}
 use Prim.Native.Nat.{ℕ, _+_, _*_, _/_, _≤_}
 use native.Mathlib.Nat.{mul-add, mul-div-le, mul-le-mul-left}
 use native.Mathlib.Omega.{arith}
-use Rattle.flow.specs.declared.seats.Seat.{Seat}
+use Rattle.flow.specs.declared.seat.Seat.{Seat}
 use Rattle.flow.specs.SeatLimits.{digit-small}
 use Rattle.flow.specs.Seats.{digitOf}
 use Rattle.flow.proofs.seat_row.with_seat.Needs as need

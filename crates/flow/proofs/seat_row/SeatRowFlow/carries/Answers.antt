@@ -3,7 +3,7 @@ use mathlib.Core.Bool.{Bool, true, false, not, _&&_}
 use Prim.Native.Nat.{ℕ, _^_, _<_}
 use native.Mathlib.Omega.{arith}
 use Rattle.std.proofs.shelf.Tests.{lt-ltb}
-use Rattle.flow.specs.declared.seats.Seat.the-variants.{Free, Held}
+use Rattle.flow.specs.declared.seat.Seat.the-variants.{Free, Held}
 use Rattle.flow.specs.Seats.{seatsOf, someSeat, rowLabel, rowMeaning}
 use Rattle.flow.proofs.SeatWalk.{all-sold}
 use Rattle.flow.proofs.seat_row.SeatRowFlow.carries.Needs as need

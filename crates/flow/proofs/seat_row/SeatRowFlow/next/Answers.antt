@@ -9,7 +9,7 @@ use Rattle.flow.proofs.seat_row.SeatRowFlow.next.Needs as need
 pub returns-then-left-here : need.returns-then-left-here
 returns-then-left-here c =
     c .with-seat .ensures
-    ∙ ap (withSeat (c .args .s) (c .loop-i .i)) (c .changed .ensures)
+    ∙ ap (withSeat (c .args .s) (c .loop-i .i)) (c .nth-change .ensures)
     ∙ sym (left-here (c .args .self .now .seats) (c .args .s) (c .loop-i .i) (c .seat-at-seat .result) (omega arith) (c .seat-at-seat .ensures) (omega arith) (c .args .k) (c .loop-i .left) (c .loop-i .inv) (omega arith))
 
 pub loop-i-again : need.loop-i-again

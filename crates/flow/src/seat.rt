@@ -1,10 +1,10 @@
-//! A row of seats, each free, held or sold.
+//! One seat of a row: free, held or sold.
 ghost use mathlib.Core.Path.{_≡_};
 ghost use lib.ListN.{length, getD};
 ghost use Rattle.flow.specs.Seats.{digitOf, becomes};
 
-/// One seat of a row.
-#[derive(Clone, Copy, Debug, PartialEq)]
+/// A seat, as a buyer finds it.
+#[derive(Clone, Copy, PartialEq)]
 pub enum Seat {
     Free,
     Held,
@@ -35,7 +35,7 @@ impl Seat {
     }
 
     /// What it becomes by its `j`-th way, from 0; past the last it stays.
-    pub(crate) fn changed(self, j: u16) -> Seat
+    pub(crate) fn nth_change(self, j: u16) -> Seat
         ensures { λ r. ⌜ r ≡ getD (becomes self) j self ⌝ }
     {
         match (self, j) {
