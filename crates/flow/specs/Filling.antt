@@ -13,6 +13,7 @@ use Rattle.flow.specs.declared.faults.FillFault.the-variants.{Sizes, Bounds, N
 use Rattle.flow.specs.Lowest.{lowest}
 use Rattle.flow.specs.Tables.{someMarked}
 
+-- accepted, or refused with a fault
 abbrev pub Answer : Type 0
 Answer = Result (Unit {0}) FillFault
 
@@ -21,10 +22,11 @@ abbrev pub then : Answer → Answer → Answer
 then (Ok u) later = later
 then (Err e) later = Err e
 
+-- accepted where the test holds
 abbrev pub holds : Bool → FillFault → Answer
 holds b e = cond b (Ok tt) (Err e)
 
--- a fault at the lowest place that shows it
+-- accepted where no place shows the fault, else refused at the lowest that does
 abbrev pub nowhere : (ℕ → FillFault) → Option ℕ → Answer
 nowhere fault None = Ok tt
 nowhere fault (Some p) = Err (fault p)
@@ -69,6 +71,7 @@ aimed n moves = nowhere Target (lowest (astray n moves) (length moves))
 abbrev pub begun : List ℕ → Answer
 begun starts = holds (someMarked starts) NoStart
 
+-- the checks in their order
 abbrev pub fillAnswer : List ℕ → List ℕ → List ℕ → List ℕ → Answer
 fillAnswer labels starts moves bounds =
     let n = length labels in
