@@ -1,6 +1,7 @@
 //! A flow whose states are the rows of some seats.
 ghost use mathlib.Core.Path.{_≡_};
 ghost use mathlib.Core.Bool.{true, false};
+ghost use lib.ListN.{length, getD};
 ghost use Prim.Native.Nat.{_+_, _*_, _/_, _%_, _^_, _<_, _≤_};
 ghost use Rattle.std.specs.declared.result.Result.the-variants.{Ok, Err};
 ghost use Rattle.flow.specs.declared.faults.RowFault.the-variants.{Seats};
@@ -84,11 +85,15 @@ pub impl Flow for SeatRow as SeatRowFlow {
 
     ghost limits = { λ t. row-limits (t .seats) (t .some) (t .few) };
 
-    fn count(&self) -> u16 {
+    fn count(&self) -> u16
+        ensures { λ r. ⌜ r ≡ rowMeaning (now (self .entry) .seats) .count ⌝ }
+    {
         power(self.seats)
     }
 
-    fn degree(&self, s: u16) -> u16 {
+    fn degree(&self, s: u16) -> u16
+        ensures { λ r. ⌜ r ≡ length (rowMeaning (now (self .entry) .seats) .nexts s) ⌝ }
+    {
         if s >= power(self.seats) {
             return 0;
         }
@@ -100,7 +105,9 @@ pub impl Flow for SeatRow as SeatRowFlow {
         if moves == 0 { 1 } else { moves }
     }
 
-    fn next(&self, s: u16, k: u16) -> u16 {
+    fn next(&self, s: u16, k: u16) -> u16
+        ensures { λ r. ⌜ r ≡ getD (rowMeaning (now (self .entry) .seats) .nexts s) k 0 ⌝ }
+    {
         if s >= power(self.seats) {
             return 0;
         }
@@ -116,11 +123,15 @@ pub impl Flow for SeatRow as SeatRowFlow {
         if k == 0 { s } else { 0 }
     }
 
-    fn is_start(&self, s: u16) -> bool {
+    fn is_start(&self, s: u16) -> bool
+        ensures { λ r. ⌜ r ≡ rowMeaning (now (self .entry) .seats) .start s ⌝ }
+    {
         s == 0
     }
 
-    fn carries(&self, s: u16, l: u8) -> bool {
+    fn carries(&self, s: u16, l: u8) -> bool
+        ensures { λ r. ⌜ r ≡ rowMeaning (now (self .entry) .seats) .label l s ⌝ }
+    {
         if s >= power(self.seats) {
             return false;
         }

@@ -67,11 +67,15 @@ pub impl Flow for TableFlow<'_> as TableFlowFlow {
 
     ghost limits = { λ t. table-limits (behind (t .labels)) (behind (t .starts)) (behind (t .moves)) (behind (t .bounds)) (t .sized) (t .stepped) (t .moving) (t .aimed) (t .begun) };
 
-    fn count(&self) -> u16 {
+    fn count(&self) -> u16
+        ensures { λ r. ⌜ r ≡ tableMeaning (behind (now (self .entry) .labels)) (behind (now (self .entry) .starts)) (behind (now (self .entry) .moves)) (behind (now (self .entry) .bounds)) .count ⌝ }
+    {
         self.labels.len() as u16
     }
 
-    fn degree(&self, s: u16) -> u16 {
+    fn degree(&self, s: u16) -> u16
+        ensures { λ r. ⌜ r ≡ length (tableMeaning (behind (now (self .entry) .labels)) (behind (now (self .entry) .starts)) (behind (now (self .entry) .moves)) (behind (now (self .entry) .bounds)) .nexts s) ⌝ }
+    {
         let s = s as usize;
         if s >= self.labels.len() {
             0
@@ -80,7 +84,9 @@ pub impl Flow for TableFlow<'_> as TableFlowFlow {
         }
     }
 
-    fn next(&self, s: u16, k: u16) -> u16 {
+    fn next(&self, s: u16, k: u16) -> u16
+        ensures { λ r. ⌜ r ≡ getD (tableMeaning (behind (now (self .entry) .labels)) (behind (now (self .entry) .starts)) (behind (now (self .entry) .moves)) (behind (now (self .entry) .bounds)) .nexts s) k 0 ⌝ }
+    {
         let s = s as usize;
         if s >= self.labels.len() {
             return 0;
@@ -92,12 +98,16 @@ pub impl Flow for TableFlow<'_> as TableFlowFlow {
         }
     }
 
-    fn is_start(&self, s: u16) -> bool {
+    fn is_start(&self, s: u16) -> bool
+        ensures { λ r. ⌜ r ≡ tableMeaning (behind (now (self .entry) .labels)) (behind (now (self .entry) .starts)) (behind (now (self .entry) .moves)) (behind (now (self .entry) .bounds)) .start s ⌝ }
+    {
         let s = s as usize;
         s < self.labels.len() && self.starts[s] != 0
     }
 
-    fn carries(&self, s: u16, l: u8) -> bool {
+    fn carries(&self, s: u16, l: u8) -> bool
+        ensures { λ r. ⌜ r ≡ tableMeaning (behind (now (self .entry) .labels)) (behind (now (self .entry) .starts)) (behind (now (self .entry) .moves)) (behind (now (self .entry) .bounds)) .label l s ⌝ }
+    {
         let s = s as usize;
         if s >= self.labels.len() || l >= 32 {
             return false;
