@@ -4,7 +4,7 @@ use Rattle.chart.specs.Chart.{name_of, label_words}
 use Rattle.chart.proofs.Texts.{put_more, put_all}
 use Rattle.chart.proofs.Labels.{label_more}
 use Rattle.chart.proofs.put_labels.Goals as goal
-use Rattle.chart.proofs.put_labels.Goals.{then-carries+in-ok-put-label, else-carries}
+use Rattle.chart.proofs.put_labels.Goals.{then-carries+in_ok-put_label, else-carries}
 
 pub loop-l-preserved : goal.loop-l-preserved
 loop-l-preserved g c =
@@ -16,10 +16,10 @@ loop-l-preserved g c =
     let rest = label_words m names s l (32 - l) in
     let left = label_words m names s (l + 1) (32 - (l + 1)) in
     elim c.if-carries.branch [
-      | then-carries+in-ok-put-label w ↦
+      | then-carries+in_ok-put_label w ↦
           put_more out rest (codes " " ++ name_of names l) left c.loop-l.invariant
           (label_more m names s l 32 true (omega arith) (sym w.if-carries.ensures))
-          (ap string_bytes w.out-is ∙ w.in-ok-put-label.ensures)
+          (ap string_bytes w.out-is ∙ w.in_ok-put_label.ensures)
       | else-carries w ↦
           put_more out rest [] left c.loop-l.invariant
           (label_more m names s l 32 false (omega arith) (sym w.if-carries.ensures))

@@ -11,10 +11,10 @@ returns g c =
     IfOk-weaker c.writeln.result _ _
     (λ _ e. put_six (string_bytes c.args.out.now) (decimal s) (start_word (m.start s))
     (label_words m (map (λ x. x.now) c.args.names.now) s 0 32) (codes " ->") (next_words (m.nexts s)) (10 ∷ [])
-    (c.start-mark-mark.ensures ∙ ap start_word c.is-start.ensures)
-    c.in-ok-write.ensures.bytes
-    c.in-ok-put-labels.ensures
-    c.in-ok-write-2.ensures.bytes
-    c.in-ok-put-nexts.ensures
+    (c.start_mark-mark.ensures ∙ ap start_word c.is_start.ensures)
+    c.in_ok-write.ensures.bytes
+    c.in_ok-put_labels.ensures
+    c.in_ok-write-2.ensures.bytes
+    c.in_ok-put_nexts.ensures
     e)
     c.writeln.ensures.bytes

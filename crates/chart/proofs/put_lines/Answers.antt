@@ -11,7 +11,7 @@ loop-s-preserved g c =
     put_more (string_bytes c.loop-s.out) (lines_from m names s (m.count - s)) (state_line m names s) (lines_from m names (s + 1) (m.count - (s + 1)))
     c.loop-s.invariant
     (let more : m.count - s ≡ suc (m.count - (s + 1)) = omega arith in ap (lines_from m names s) more)
-    c.in-ok-put-line.ensures
+    c.in_ok-put_line.ensures
 
 pub returns : goal.returns
 returns g c =

@@ -10,7 +10,7 @@ loop-k-preserved g c =
     let k = c.loop-k.k in
     put_more (string_bytes c.loop-k.out) (next_words (drop k ts)) (codes " " ++ decimal (get_or ts k 0)) _ c.loop-k.invariant
     (at_drop_more next_words ts k 0 (omega arith))
-    (let e = c.in-ok-write.ensures.bytes in cc)
+    (let e = c.in_ok-write.ensures.bytes in cc)
 
 pub returns : goal.returns
 returns g c =

@@ -11,9 +11,9 @@ pub returns : goal.returns
 returns c =
     let t = c.ticket-ticket.ensures in
     let ticket : ◌≡◌ {A = Meaning} _ ticket_meaning = λ i. table_meaning (t.labels i) (t.starts i) (t.moves i) (t.bounds i) in
-    let row : ◌≡◌ {A = Meaning} _ two_seats = ap row_meaning c.two-seats-row.ensures.seats in
-    let tickets = c.as-str.ensures.value ∙ c.in-ok-tickets.ensures ∙ ap (λ (m : Meaning). chart_of m (codes "held" ∷ codes "sold" ∷ [])) ticket in
-    let seats = c.as-str-2.ensures.value ∙ c.in-ok-seats.ensures ∙ ap (λ (m : Meaning). chart_of m (codes "free" ∷ codes "held" ∷ codes "sold" ∷ [])) row in
+    let row : ◌≡◌ {A = Meaning} _ two_seats = ap row_meaning c.two_seats-row.ensures.seats in
+    let tickets = c.as_str.ensures.value ∙ c.in_ok-tickets.ensures ∙ ap (λ (m : Meaning). chart_of m (codes "held" ∷ codes "sold" ∷ [])) ticket in
+    let seats = c.as_str-2.ensures.value ∙ c.in_ok-seats.ensures ∙ ap (λ (m : Meaning). chart_of m (codes "free" ∷ codes "held" ∷ codes "sold" ∷ [])) row in
     let tally = c.plus.ensures ∙ (λ i. both_of ((c.tally.ensures ∙ ap tally_of ticket) i) ((c.tally-2.ensures ∙ ap tally_of row) i)) in
-    let counts = c.as-str-3.ensures.value ∙ c.in-ok-counts.ensures ∙ ap count_line tally in
+    let counts = c.as_str-3.ensures.value ∙ c.in_ok-counts.ensures ∙ ap count_line tally in
     subst (λ (x : List ℕ). IfOk c.page.result (λ s. string_bytes s ≡ x)) (λ i. page_of (tickets i) (seats i) (counts i)) c.page.ensures

@@ -11,8 +11,8 @@ high s p d x e =
     let a : d + 3 * ((s / p) / 3) ≤ 2 + s / p = omega (arith, digit_small x) in
     omega (arith, mul-le-mul_left p a, mul-add p 2 (s / p), mul-div-le s p)
 
-pub overflow-mul-result-2 : goal.overflow-mul-result-2
-overflow-mul-result-2 c = omega (arith, high c.args.s c.power-p.result c.digit.result c.args.seat c.digit.ensures)
+pub overflow_mul-result-2 : goal.overflow_mul-result-2
+overflow_mul-result-2 c = omega (arith, high c.args.s c.power-p.result c.digit.result c.args.seat c.digit.ensures)
 
-pub overflow-add-result-2 : goal.overflow-add-result-2
-overflow-add-result-2 c = omega (arith, high c.args.s c.power-p.result c.digit.result c.args.seat c.digit.ensures)
+pub overflow_add-result-2 : goal.overflow_add-result-2
+overflow_add-result-2 c = omega (arith, high c.args.s c.power-p.result c.digit.result c.args.seat c.digit.ensures)

@@ -10,5 +10,5 @@ returns c =
     let wrote = c.write-len.ensures in
     let text = begins (written (names_in rule) (form_in rule)) (replicate 1024 0) c.write-len.new.out c.write-len.result wrote.short wrote.length wrote.bytes in
     let named = text ∙ ap (λ (names : List (List ℕ)). written names (form_in rule)) c.requires in
-    let front = c.in-ok-extend-from-slice.ensures.items ∙ (λ i. c.in-ok-line.ensures.items i ++ named i) in
-    c.in-ok-push.ensures.items ∙ ap (λ (bytes : List ℕ). bytes ++ 10 ∷ []) front
+    let front = c.in_ok-extend_from_slice.ensures.items ∙ (λ i. c.in_ok-line.ensures.items i ++ named i) in
+    c.in_ok-push.ensures.items ∙ ap (λ (bytes : List ℕ). bytes ++ 10 ∷ []) front

@@ -6,5 +6,5 @@ use Rattle.std.proofs.lemmas.Bool.Decides.{Decides-eqb}
 
 pub returns : goal.returns
 returns c =
-    let line-end = strip_suffix_is Decides-eqb c.args.input.now (10 ∷ []) c.strip-suffix.result c.strip-suffix.ensures.cases in
-    ap (λ r. r.now) c.unwrap-or.ensures ∙ stripped c.args.input c.strip-suffix.result line-end
+    let line-end = strip_suffix_is Decides-eqb c.args.input.now (10 ∷ []) c.strip_suffix.result c.strip_suffix.ensures.cases in
+    ap (λ r. r.now) c.unwrap_or.ensures ∙ stripped c.args.input c.strip_suffix.result line-end

@@ -6,9 +6,9 @@ pub returns-then-eq : goal.returns-then-eq
 returns-then-eq c =
     sym
     (c.loop-i.invariant
-    ∙ some_here c.args.self.now.seats c.args.s c.loop-i.i c.seat-at.result (omega arith) c.seat-at.ensures c.args.seat c.if-eq.ensures)
+    ∙ some_here c.args.self.now.seats c.args.s c.loop-i.i c.seat_at.result (omega arith) c.seat_at.ensures c.args.seat c.if-eq.ensures)
 
 pub loop-i-preserved : goal.loop-i-preserved
 loop-i-preserved c =
     c.loop-i.invariant
-    ∙ some_past c.args.self.now.seats c.args.s c.loop-i.i c.seat-at.result (omega arith) c.seat-at.ensures c.args.seat c.if-eq.ensures
+    ∙ some_past c.args.self.now.seats c.args.s c.loop-i.i c.seat_at.result (omega arith) c.seat_at.ensures c.args.seat c.if-eq.ensures

@@ -14,12 +14,12 @@ sold k s l free h e f =
     ∙ sym (ap (λ (b : Bool). b && row_label 2 xs) (lt-ltb s (3 ^ k) h))
     ∙ ap (λ (n : ℕ). (row_meaning k).label n s) (sym e)
 
-pub returns-then-not-some-seat : goal.returns-then-not-some-seat
-returns-then-not-some-seat c =
-    ap not c.some-seat-then-not-some-seat.ensures
-    ∙ sold c.args.self.now.seats c.args.s c.args.l false (omega arith) c.in-2.is c.if-not-some-seat.ensures
+pub returns-then-not-some_seat : goal.returns-then-not-some_seat
+returns-then-not-some_seat c =
+    ap not c.some_seat-then-not-some_seat.ensures
+    ∙ sold c.args.self.now.seats c.args.s c.args.l false (omega arith) c.in-2.is c.if-not-some_seat.ensures
 
-pub returns-else-not-some-seat : goal.returns-else-not-some-seat
-returns-else-not-some-seat c =
-    ap not c.if-not-some-seat.false
-    ∙ sold c.args.self.now.seats c.args.s c.args.l true (omega arith) c.in-2.is c.if-not-some-seat.ensures
+pub returns-else-not-some_seat : goal.returns-else-not-some_seat
+returns-else-not-some_seat c =
+    ap not c.if-not-some_seat.false
+    ∙ sold c.args.self.now.seats c.args.s c.args.l true (omega arith) c.in-2.is c.if-not-some_seat.ensures

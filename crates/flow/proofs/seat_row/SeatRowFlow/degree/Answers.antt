@@ -5,8 +5,8 @@ use Rattle.flow.proofs.seat_row.SeatRowFlow.degree.Goals as goal
 
 pub loop-i-preserved : goal.loop-i-preserved
 loop-i-preserved c =
-    let x = c.seat-at.result in
-    let t = turn_length c.args.self.now.seats c.args.s c.loop-i.i x (omega arith) c.seat-at.ensures (omega arith) in
+    let x = c.seat_at.result in
+    let t = turn_length c.args.self.now.seats c.args.s c.loop-i.i x (omega arith) c.seat_at.ensures (omega arith) in
     (omega (arith, few_ways x), omega arith)
 
 pub returns-else-moves-eq0 : goal.returns-else-moves-eq0

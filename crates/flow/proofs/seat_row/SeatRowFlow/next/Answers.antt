@@ -4,13 +4,13 @@ use Rattle.flow.proofs.seat_row.SeatRowFlow.next.Goals as goal
 
 pub returns-then-left-here : goal.returns-then-left-here
 returns-then-left-here c =
-    c.with-seat.ensures
-    ∙ ap (with_seat c.args.s c.loop-i.i) c.nth-change.ensures
-    ∙ sym (left_here c.args.self.now.seats c.args.s c.loop-i.i c.seat-at-seat.result (omega arith) c.seat-at-seat.ensures (omega arith) c.args.k c.loop-i.left c.loop-i.invariant (omega arith))
+    c.with_seat.ensures
+    ∙ ap (with_seat c.args.s c.loop-i.i) c.nth_change.ensures
+    ∙ sym (left_here c.args.self.now.seats c.args.s c.loop-i.i c.seat_at-seat.result (omega arith) c.seat_at-seat.ensures (omega arith) c.args.k c.loop-i.left c.loop-i.invariant (omega arith))
 
 pub loop-i-preserved : goal.loop-i-preserved
 loop-i-preserved c =
-    left_past c.args.self.now.seats c.args.s c.loop-i.i c.seat-at-seat.result (omega arith) c.seat-at-seat.ensures (omega arith) c.args.k c.loop-i.left c.ways-here.result c.ways-here.ensures c.if-left-here.false c.loop-i.invariant
+    left_past c.args.self.now.seats c.args.s c.loop-i.i c.seat_at-seat.result (omega arith) c.seat_at-seat.ensures (omega arith) c.args.k c.loop-i.left c.ways-here.result c.ways-here.ensures c.if-left-here.false c.loop-i.invariant
 
 pub returns-then-k-eq0 : goal.returns-then-k-eq0
 returns-then-k-eq0 c =

@@ -3,12 +3,12 @@ use Rattle.flow.specs.Filling.{bad_step}
 use Rattle.flow.proofs.Lowests.{lowest_here, lowest_more}
 use Rattle.flow.proofs.table_flow.filling.bad_step.Goals as goal
 
-pub returns-then-not-is-step : goal.returns-then-not-is-step
-returns-then-not-is-step c =
+pub returns-then-not-is_step : goal.returns-then-not-is_step
+returns-then-not-is_step c =
     let bs = c.args.bounds.now in
-    sym (c.loop-s.invariant ∙ lowest_here (bad_step bs) c.args.n c.loop-s.s (omega arith) (ap not (sym c.is-step.ensures ∙ c.if-not-is-step.true)))
+    sym (c.loop-s.invariant ∙ lowest_here (bad_step bs) c.args.n c.loop-s.s (omega arith) (ap not (sym c.is_step.ensures ∙ c.if-not-is_step.true)))
 
 pub loop-s-preserved : goal.loop-s-preserved
 loop-s-preserved c =
     let bs = c.args.bounds.now in
-    c.loop-s.invariant ∙ lowest_more (bad_step bs) c.args.n c.loop-s.s (omega arith) (ap not (sym c.is-step.ensures ∙ c.if-not-is-step.false))
+    c.loop-s.invariant ∙ lowest_more (bad_step bs) c.args.n c.loop-s.s (omega arith) (ap not (sym c.is_step.ensures ∙ c.if-not-is_step.false))

@@ -6,5 +6,5 @@ pub returns : goal.returns
 returns c =
     record {
       value = search rules;
-      sound = λ _. stepped c.args.n c.args.moves.now c.args.bounds.now c.in-default.ensures c.if-bounds-n.false;
+      sound = λ _. stepped c.args.n c.args.moves.now c.args.bounds.now c.in_default.ensures c.if-bounds-n.false;
     }

@@ -2,6 +2,6 @@ use Rattle.std.proofs.Common.{refl, arith}
 use Rattle.grammar.specs.Words.{spelled}
 use Rattle.names.proofs.name.Name.filler.Goals as goal
 
-pub invariant-of-result : goal.invariant-of-result
+pub invariant_of-result : goal.invariant_of-result
 unfolding spelled
-invariant-of-result c = (omega arith, (refl, tt))
+invariant_of-result c = (omega arith, (refl, tt))

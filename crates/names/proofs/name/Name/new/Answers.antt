@@ -3,8 +3,8 @@ use Rattle.grammar.specs.Reading.{naming}
 use Rattle.names.proofs.Namings.{kept_front}
 use Rattle.names.proofs.name.Name.new.Goals as goal
 
-pub invariant-of-result : goal.invariant-of-result
-invariant-of-result c = (search rules, (ap naming (kept_front c.args.bytes.now _ _ c.copy-from-slice.ensures.after) ∙ sym c.if-not-is-name.ensures, tt))
+pub invariant_of-result : goal.invariant_of-result
+invariant_of-result c = (search rules, (ap naming (kept_front c.args.bytes.now _ _ c.copy_from_slice.ensures.after) ∙ sym c.if-not-is_name.ensures, tt))
 
 pub returns : goal.returns
-returns c = (sym c.if-not-is-name.ensures, kept_front c.args.bytes.now _ _ c.copy-from-slice.ensures.after)
+returns c = (sym c.if-not-is_name.ensures, kept_front c.args.bytes.now _ _ c.copy_from_slice.ensures.after)

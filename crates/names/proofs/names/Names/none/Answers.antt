@@ -2,6 +2,6 @@ use Rattle.std.proofs.Common.{refl, arith}
 use Rattle.grammar.specs.Reading.{wrong_in}
 use Rattle.names.proofs.names.Names.none.Goals as goal
 
-pub invariant-of-result : goal.invariant-of-result
+pub invariant_of-result : goal.invariant_of-result
 unfolding wrong_in
-invariant-of-result c = (omega arith, (omega arith, (refl, tt)))
+invariant_of-result c = (omega arith, (omega arith, (refl, tt)))

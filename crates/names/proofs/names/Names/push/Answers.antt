@@ -2,8 +2,8 @@ use Rattle.std.proofs.Common.{◌<◌, length, arith, length-set, rules}
 use Rattle.names.proofs.Namings.{first_push, fine_push}
 use Rattle.names.proofs.names.Names.push.Goals as goal
 
-pub invariant-of-self : goal.invariant-of-self
-invariant-of-self c =
+pub invariant_of-self : goal.invariant_of-self
+invariant_of-self c =
     let inside : c.args.self.now.count < length c.args.self.now.entries = search rules in (
       omega arith,
       (

@@ -5,8 +5,8 @@ use Rattle.rule.proofs.rule.Rule.first.Goals as goal
 pub loop-owed-init : goal.loop-owed-init
 loop-owed-init c = back_start c.args.self.now c.args.root c.requires
 
-pub overflow-sub-at : goal.overflow-sub-at
-overflow-sub-at c =
+pub overflow_sub-at : goal.overflow_sub-at
+overflow_sub-at c =
     back_on c.args.self.now c.args.root c.requires c.loop-owed.at c.loop-owed.owed c.loop-owed.invariant c.loop-owed-test.true
 
 pub loop-owed-smaller : goal.loop-owed-smaller

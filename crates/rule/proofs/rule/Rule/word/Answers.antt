@@ -6,7 +6,7 @@ use Rattle.rule.proofs.rule.Rule.word.Goals as goal
 
 pub returns-in-Some : goal.returns-in-Some
 returns-in-Some c =
-    ap (λ x. x.now) c.unwrap-or.ensures ∙ name_else (names_in c.args.self.now) c.in-Some.label c.get.result _ refl c.get.ensures
+    ap (λ x. x.now) c.unwrap_or.ensures ∙ name_else (names_in c.args.self.now) c.in-Some.label c.get.result _ refl c.get.ensures
     ∙ label_word (names_in c.args.self.now) (parting c.args.part) c.in-Some.label c.in-Some.ensures
 
 pub returns-in-None : goal.returns-in-None

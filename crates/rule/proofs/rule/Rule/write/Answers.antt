@@ -11,8 +11,8 @@ pub returns : goal.returns
 returns c =
     let same = struck_nothing (form_in c.args.self.now) in
     record {
-      length = c.write-struck.ensures.length ∙ ap (λ (f : Form ℕ). length_in (written (names_in c.args.self.now) f) c.args.out.now) same;
-      bytes = c.write-struck.ensures.bytes ∙ ap (λ (f : Form ℕ). put_into (written (names_in c.args.self.now) f) c.args.out.now) same;
-      short = subst (λ (f : Form ℕ). length (written (names_in c.args.self.now) f) ≤ 1024) same c.write-struck.ensures.short;
-      again = subst (λ (f : Form ℕ). answer_of (names_in c.args.self.now) (written (names_in c.args.self.now) f) ≡ the_rule f) same c.write-struck.ensures.again;
+      length = c.write_struck.ensures.length ∙ ap (λ (f : Form ℕ). length_in (written (names_in c.args.self.now) f) c.args.out.now) same;
+      bytes = c.write_struck.ensures.bytes ∙ ap (λ (f : Form ℕ). put_into (written (names_in c.args.self.now) f) c.args.out.now) same;
+      short = subst (λ (f : Form ℕ). length (written (names_in c.args.self.now) f) ≤ 1024) same c.write_struck.ensures.short;
+      again = subst (λ (f : Form ℕ). answer_of (names_in c.args.self.now) (written (names_in c.args.self.now) f) ≡ the_rule f) same c.write_struck.ensures.again;
     }

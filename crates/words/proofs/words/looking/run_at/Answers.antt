@@ -8,13 +8,13 @@ use Rattle.words.proofs.words.looking.run_at.Goals as goal
 
 pub returns-then-end-at-gt-LONGEST-WORD : goal.returns-then-end-at-gt-LONGEST-WORD
 returns-then-end-at-gt-LONGEST-WORD c =
-    overlong _ _ _ refl (omega arith) (run_long _ _ c.past-run-end.result c.requires.1 c.past-run-end.ensures.whole (omega arith))
+    overlong _ _ _ refl (omega arith) (run_long _ _ c.past_run-end.result c.requires.1 c.past_run-end.ensures.whole (omega arith))
 
 pub returns : goal.returns
 returns c =
     let text : List ℕ = c.args.text.now in
     let at : ℕ = c.args.at in
-    let whole = c.past-run-end.ensures.whole in
+    let whole = c.past_run-end.ensures.whole in
     let t = seen _ _ _ _ (length (run (drop (at + 1) text))) _ refl (omega arith) (omega arith) (omega arith)
-    (run_word text at c.past-run-end.result c.requires.1 whole (omega arith) ∙ ap (word (length (run (drop (at + 1) text)))) (ap spelled (sym (run_part text at c.past-run-end.result (omega arith) whole)) ∙ sym c.spelling-word.ensures)) in
-    (t.0, t.1, t.2, run-extent text at c.past-run-end.result _ (omega arith) (omega (arith, c.past-run-end.ensures.within)) c.spelling-word.ensures)
+    (run_word text at c.past_run-end.result c.requires.1 whole (omega arith) ∙ ap (word (length (run (drop (at + 1) text)))) (ap spelled (sym (run_part text at c.past_run-end.result (omega arith) whole)) ∙ sym c.spelling-word.ensures)) in
+    (t.0, t.1, t.2, run-extent text at c.past_run-end.result _ (omega arith) (omega (arith, c.past_run-end.ensures.within)) c.spelling-word.ensures)
