@@ -8,11 +8,10 @@ mod sums;
 pub use counts::{Tally, count_line};
 use flow::Flow;
 use std::alloc::{AllocError, Global};
-use std::fmt;
 pub use sums::tally;
 
 // A space and the number of each next state.
-fn put_nexts<F: Flow>(out: &mut String, flow: &F, s: u16) -> fmt::Result
+fn put_nexts<F: Flow>(out: &mut String, flow: &F, s: u16) -> Result<(), AllocError>
     ensures { OnOk result (string_bytes out.new ≡ string_bytes out.old ++ next_words ((F.Flow.meaning flow.now).nexts s)) }
 {
     for k in 0..flow.degree(s) {
@@ -23,7 +22,7 @@ fn put_nexts<F: Flow>(out: &mut String, flow: &F, s: u16) -> fmt::Result
 }
 
 // A space and the name of the label `l`, or its number where it has no name.
-fn put_label(out: &mut String, names: &[&str], l: u8) -> fmt::Result
+fn put_label(out: &mut String, names: &[&str], l: u8) -> Result<(), AllocError>
     ensures { OnOk result (string_bytes out.new ≡ string_bytes out.old ++ (codes " " ++ name_of (map (λ x. x.now) names.now) l)) }
 {
     if (l as usize) < names.len() {
@@ -35,7 +34,7 @@ fn put_label(out: &mut String, names: &[&str], l: u8) -> fmt::Result
 }
 
 // A space and the name of each label that `s` carries.
-fn put_labels<F: Flow>(out: &mut String, flow: &F, names: &[&str], s: u16) -> fmt::Result
+fn put_labels<F: Flow>(out: &mut String, flow: &F, names: &[&str], s: u16) -> Result<(), AllocError>
     ensures { OnOk result (string_bytes out.new ≡ string_bytes out.old ++ label_words (F.Flow.meaning flow.now) (map (λ x. x.now) names.now) s 0 32) }
 {
     for l in 0..32 {
@@ -53,7 +52,7 @@ fn start_mark(start: bool) -> &'static str
 }
 
 // The line of the state `s`.
-fn put_line<F: Flow>(out: &mut String, flow: &F, names: &[&str], s: u16) -> fmt::Result
+fn put_line<F: Flow>(out: &mut String, flow: &F, names: &[&str], s: u16) -> Result<(), AllocError>
     ensures { OnOk result (string_bytes out.new ≡ string_bytes out.old ++ state_line (F.Flow.meaning flow.now) (map (λ x. x.now) names.now) s) }
 {
     let mark = start_mark(flow.is_start(s));
@@ -65,7 +64,7 @@ fn put_line<F: Flow>(out: &mut String, flow: &F, names: &[&str], s: u16) -> fmt:
 }
 
 // The lines of all states.
-fn put_lines<F: Flow>(out: &mut String, flow: &F, names: &[&str]) -> fmt::Result
+fn put_lines<F: Flow>(out: &mut String, flow: &F, names: &[&str]) -> Result<(), AllocError>
     ensures { OnOk result (string_bytes out.new ≡ string_bytes out.old ++ chart_of (F.Flow.meaning flow.now) (map (λ x. x.now) names.now)) }
 {
     for s in 0..flow.count() {
@@ -82,8 +81,6 @@ pub fn chart<F: Flow>(heap: Global, flow: &F, names: &[&str]) -> Result<String, 
     ensures { IfOk result (λ t. string_bytes t ≡ chart_of (F.Flow.meaning flow.now) (map (λ x. x.now) names.now)) }
 {
     let mut out = String::new(heap);
-    match put_lines(&mut out, flow, names) {
-        Ok(()) => Ok(out),
-        Err(_) => Err(AllocError),
-    }
+    put_lines(&mut out, flow, names)?;
+    Ok(out)
 }

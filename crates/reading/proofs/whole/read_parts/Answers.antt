@@ -4,35 +4,35 @@ use Rattle.reading.proofs.Phrases.{looked}
 use Rattle.reading.proofs.Wholes.{read_long, read_slip, read_fault_from, from_first, read_late_slip, read_stray, read_many, read_all, exits, looked_end}
 use Rattle.reading.proofs.whole.read_parts.Goals as goal
 
-pub returns-then-text-gt-LONGEST-TEXT : goal.returns-then-text-gt-LONGEST-TEXT
-returns-then-text-gt-LONGEST-TEXT c = read_long _ _ c.if-text-gt-LONGEST-TEXT.true
+pub returns-then-text-gt-LONGEST_TEXT : goal.returns-then-text-gt-LONGEST_TEXT
+returns-then-text-gt-LONGEST_TEXT c = read_long _ _ c.if-text-gt-LONGEST_TEXT.true
 
 pub returns-in_err-pass : goal.returns-in_err-pass
 returns-in_err-pass c =
     exits _ _ _ _ (err_from_is_err_and c.from-residual.result c.from-residual.ensures.1)
-    (read_slip _ _ _ c.if-text-gt-LONGEST-TEXT.false c.in_err-pass.ensures)
+    (read_slip _ _ _ c.if-text-gt-LONGEST_TEXT.false c.in_err-pass.ensures)
 
 pub returns-in_err-read_rule : goal.returns-in_err-read_rule
 returns-in_err-read_rule c =
     exits _ _ _ _ (err_from_is_err_and c.from-residual-in_err-read_rule.result c.from-residual-in_err-read_rule.ensures.1)
-    (read_fault_from _ _ c.if-text-gt-LONGEST-TEXT.false c.in_ok-pass.ensures c.new-words.result c.in_err-read_rule.field-0.0 (from_first _ _ _ c.new-words.ensures.text c.new-words.ensures.place) (c.in_err-read_rule.ensures bottom))
+    (read_fault_from _ _ c.if-text-gt-LONGEST_TEXT.false c.in_ok-pass.ensures c.new-words.result c.in_err-read_rule.field-0.0 (from_first _ _ _ c.new-words.ensures.text c.new-words.ensures.place) (c.in_err-read_rule.ensures bottom))
 
 pub returns-in_err-seen : goal.returns-in_err-seen
 returns-in_err-seen c =
     exits _ _ _ _ (err_from_is_err_and c.from-residual-in_err-seen.result c.from-residual-in_err-seen.ensures.1)
-    (read_late_slip _ _ c.if-text-gt-LONGEST-TEXT.false c.in_ok-pass.ensures _ _ _ _ c.in_ok-read_rule.ensures (from_first _ _ _ c.new-words.ensures.text c.new-words.ensures.place) _ c.in_err-seen.ensures)
+    (read_late_slip _ _ c.if-text-gt-LONGEST_TEXT.false c.in_ok-pass.ensures _ _ _ _ c.in_ok-read_rule.ensures (from_first _ _ _ c.new-words.ensures.text c.new-words.ensures.place) _ c.in_err-seen.ensures)
 
 pub returns-in-Some : goal.returns-in-Some
 returns-in-Some c =
-    read_stray _ _ c.if-text-gt-LONGEST-TEXT.false c.in_ok-pass.ensures _ _ _ _ c.in_ok-read_rule.ensures (from_first _ _ _ c.new-words.ensures.text c.new-words.ensures.place) _ _ _
+    read_stray _ _ c.if-text-gt-LONGEST_TEXT.false c.in_ok-pass.ensures _ _ _ _ c.in_ok-read_rule.ensures (from_first _ _ _ c.new-words.ensures.text c.new-words.ensures.place) _ _ _
     (looked _ _ _ _ c.in-Some.is c.in_ok-seen.ensures).0
 
-pub returns-then-parts-gt-MOST-PARTS : goal.returns-then-parts-gt-MOST-PARTS
-returns-then-parts-gt-MOST-PARTS c =
-    read_many _ _ c.if-text-gt-LONGEST-TEXT.false c.in_ok-pass.ensures _ _ _ _ c.in_ok-read_rule.ensures (from_first _ _ _ c.new-words.ensures.text c.new-words.ensures.place) _
-    (looked_end _ _ _ c.in-None.is c.in_ok-seen.ensures) c.none-parts.ensures c.if-parts-gt-MOST-PARTS.true
+pub returns-then-parts-gt-MOST_PARTS : goal.returns-then-parts-gt-MOST_PARTS
+returns-then-parts-gt-MOST_PARTS c =
+    read_many _ _ c.if-text-gt-LONGEST_TEXT.false c.in_ok-pass.ensures _ _ _ _ c.in_ok-read_rule.ensures (from_first _ _ _ c.new-words.ensures.text c.new-words.ensures.place) _
+    (looked_end _ _ _ c.in-None.is c.in_ok-seen.ensures) c.none-parts.ensures c.if-parts-gt-MOST_PARTS.true
 
-pub returns-else-parts-gt-MOST-PARTS : goal.returns-else-parts-gt-MOST-PARTS
-returns-else-parts-gt-MOST-PARTS c =
-    read_all _ _ c.if-text-gt-LONGEST-TEXT.false c.in_ok-pass.ensures _ _ _ _ c.in_ok-read_rule.ensures (from_first _ _ _ c.new-words.ensures.text c.new-words.ensures.place) _
-    (looked_end _ _ _ c.in-None.is c.in_ok-seen.ensures) c.none-parts.ensures c.if-parts-gt-MOST-PARTS.false
+pub returns-else-parts-gt-MOST_PARTS : goal.returns-else-parts-gt-MOST_PARTS
+returns-else-parts-gt-MOST_PARTS c =
+    read_all _ _ c.if-text-gt-LONGEST_TEXT.false c.in_ok-pass.ensures _ _ _ _ c.in_ok-read_rule.ensures (from_first _ _ _ c.new-words.ensures.text c.new-words.ensures.place) _
+    (looked_end _ _ _ c.in-None.is c.in_ok-seen.ensures) c.none-parts.ensures c.if-parts-gt-MOST_PARTS.false

@@ -5,4 +5,4 @@ use Rattle.words.proofs.scan.equal.Goals as goal
 use Rattle.std.proofs.lemmas.Bool.Decides.{Decides-eqb}
 
 pub returns : goal.returns
-returns c = let h = slice_eq-Decides Decides-eqb _ _ _ c.eq.ensures in search (rules, compares_Decides same (search rules))
+returns c = let h = slice_eq-Decides Decides-eqb c.args.a.now c.args.b.now c.eq.result c.eq.ensures in search (rules, compares_Decides same (search rules))

@@ -4,8 +4,8 @@ use Rattle.names.specs.Lists.{names_of}
 use Rattle.names.proofs.Namings.{many, count_is, not_fresh, grown, whole}
 use Rattle.names.proofs.names.Names.new.Goals as goal
 
-pub returns-then-names-gt-MOST-NAMES : goal.returns-then-names-gt-MOST-NAMES
-returns-then-names-gt-MOST-NAMES c = many _ c.if-names-gt-MOST-NAMES.true
+pub returns-then-names-gt-MOST_NAMES : goal.returns-then-names-gt-MOST_NAMES
+returns-then-names-gt-MOST_NAMES c = many _ c.if-names-gt-MOST_NAMES.true
 
 pub push-requires : goal.push-requires
 push-requires c =
@@ -15,7 +15,7 @@ push-requires c =
     }
 
 pub returns-in-None : goal.returns-in-None
-returns-in-None c = not_fresh c.args.names.now c.loop-i.list _ c.loop-i.invariant c.if-names-gt-MOST-NAMES.false c.loop-i-test.true _ c.in-None.ensures
+returns-in-None c = not_fresh c.args.names.now c.loop-i.list _ c.loop-i.invariant c.if-names-gt-MOST_NAMES.false c.loop-i-test.true _ c.in-None.ensures
 
 pub loop-i-preserved : goal.loop-i-preserved
 loop-i-preserved c =

@@ -6,8 +6,8 @@ use Rattle.grammar.proofs.Streams.{seen, overlong, run_part, run_word, run_long}
 use Rattle.words.proofs.Looks.{run-extent}
 use Rattle.words.proofs.words.looking.run_at.Goals as goal
 
-pub returns-then-end-at-gt-LONGEST-WORD : goal.returns-then-end-at-gt-LONGEST-WORD
-returns-then-end-at-gt-LONGEST-WORD c =
+pub returns-then-end-at-gt-LONGEST_WORD : goal.returns-then-end-at-gt-LONGEST_WORD
+returns-then-end-at-gt-LONGEST_WORD c =
     overlong _ _ _ refl (omega arith) (run_long _ _ c.past_run-end.result c.requires.1 c.past_run-end.ensures.whole (omega arith))
 
 pub returns : goal.returns
