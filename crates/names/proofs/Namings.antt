@@ -1,5 +1,5 @@
 -- The bytes that a name keeps, and a name list that grows by one name after another.
-use Rattle.std.proofs.Common.{◌≡◌, ℕ, ◌+◌, ◌<◌, ◌≤◌, Bool, true, ◌&&◌, List, [], ◌∷◌, ◌++◌, map, length, get_or, take, set, Some, None, Option, sym, refl, ap, ◌∙◌, arith, Bor, MutBor}
+use Rattle.std.proofs.Common.{◌≡◌, ℕ, ◌+◌, ◌<◌, ◌≤◌, Bool, true, ◌&&◌, List, [], ◌∷◌, ◌++◌, map, length, get_or, take, set, Some, None, Option, sym, refl, ap, ◌∙◌, arith, Bor}
 use borrow.Author.Tests.{clash}
 use Rattle.std.proofs.lemmas.List.{take_at, take_all, take_more, take_more_set, length-map, length-take-le, get_or-map, get_or-take, map_push}
 use Rattle.grammar.specs.Forms.Form.{no_form, leaf}
@@ -73,13 +73,13 @@ module _ (ns : List (Bor (List ℕ))) where
     right_front : wrong_in (take i (spellings ns)) ≡ right
     right_front = ap wrong_in (sym e) ∙ is_right_lem _ l.fine
 
-    pub not_fresh : length ns ≤ 32 → i < length ns → (d : MutBor (List ℕ)) → Fresh (names_of l) (get_or ns i d).now None → wrong_in (spellings ns) ≡ wrong i
+    pub not_fresh : length ns ≤ 32 → i < length ns → (d : Bor (List ℕ)) → Fresh (names_of l) (get_or ns i d).now None → wrong_in (spellings ns) ≡ wrong i
     not_fresh n h d w =
         let x = long in
         wrong_next (spellings ns) i (omega arith) (omega arith) right_front
         ((λ t. naming (at i d h t) && absent (sym e t) (at i d h t)) ∙ w)
 
-    pub grown : i < length ns → (d : MutBor (List ℕ)) (more : Names) (name : Name) → bytes_of name ≡ (get_or ns i d).now → names_of more ≡ names_of l ++ bytes_of name ∷ [] → names_of more ≡ take (i + 1) (spellings ns)
+    pub grown : i < length ns → (d : Bor (List ℕ)) (more : Names) (name : Name) → bytes_of name ≡ (get_or ns i d).now → names_of more ≡ names_of l ++ bytes_of name ∷ [] → names_of more ≡ take (i + 1) (spellings ns)
     grown h d more name b m =
         let x = long in
         m ∙ (λ t. e t ++ (b ∙ sym (at i d h)) t ∷ []) ∙ sym (take_more (spellings ns) i [] (omega arith))

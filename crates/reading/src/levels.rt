@@ -93,7 +93,7 @@ fn expect(words: &mut Words<'_>, due: Due) -> Result<(), GrammarFault>
     }
 }
 
-#[cycle(read_and_read_atom_read_or_read_rule_read_unary_read_until)]
+#[cycle(levels)]
 pub fn read_rule(
     words: &mut Words<'_>,
     names: &Names,
@@ -109,7 +109,7 @@ pub fn read_rule(
     Ok(())
 }
 
-#[cycle(read_and_read_atom_read_or_read_rule_read_unary_read_until)]
+#[cycle(levels)]
 fn read_or(words: &mut Words<'_>, names: &Names, parts: &mut Parts) -> Result<(), GrammarFault>
     ensures { OrDone (names_of names.now) parts.old parts.new words.old words.new result }
 {
@@ -121,7 +121,7 @@ fn read_or(words: &mut Words<'_>, names: &Names, parts: &mut Parts) -> Result<()
     Ok(())
 }
 
-#[cycle(read_and_read_atom_read_or_read_rule_read_unary_read_until)]
+#[cycle(levels)]
 fn read_and(words: &mut Words<'_>, names: &Names, parts: &mut Parts) -> Result<(), GrammarFault>
     ensures { AndDone (names_of names.now) parts.old parts.new words.old words.new result }
 {
@@ -133,7 +133,7 @@ fn read_and(words: &mut Words<'_>, names: &Names, parts: &mut Parts) -> Result<(
     Ok(())
 }
 
-#[cycle(read_and_read_atom_read_or_read_rule_read_unary_read_until)]
+#[cycle(levels)]
 fn read_unary(words: &mut Words<'_>, names: &Names, parts: &mut Parts) -> Result<(), GrammarFault>
     ensures { UnaryDone (names_of names.now) parts.old parts.new words.old words.new result }
 {
@@ -154,7 +154,7 @@ fn read_unary(words: &mut Words<'_>, names: &Names, parts: &mut Parts) -> Result
 }
 
 // The atom that the word at `at`, just taken, begins.
-#[cycle(read_and_read_atom_read_or_read_rule_read_unary_read_until)]
+#[cycle(levels)]
 fn read_atom(
     words: &mut Words<'_>,
     names: &Names,
@@ -189,7 +189,7 @@ fn read_atom(
 }
 
 // What follows the letter `A` or `E`, just taken.
-#[cycle(read_and_read_atom_read_or_read_rule_read_unary_read_until)]
+#[cycle(levels)]
 fn read_until(
     words: &mut Words<'_>,
     names: &Names,

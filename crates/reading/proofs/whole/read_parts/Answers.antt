@@ -9,17 +9,17 @@ returns-then-text-gt-LONGEST_TEXT c = read_long _ _ c.if-text-gt-LONGEST_TEXT.tr
 
 pub returns-in_err-pass : goal.returns-in_err-pass
 returns-in_err-pass c =
-    exits _ _ _ _ (err_from_is_err_and c.from-residual.result c.from-residual.ensures.1)
+    exits _ _ _ _ (err_from_is_err_and c.from_residual.result c.from_residual.ensures.1)
     (read_slip _ _ _ c.if-text-gt-LONGEST_TEXT.false c.in_err-pass.ensures)
 
 pub returns-in_err-read_rule : goal.returns-in_err-read_rule
 returns-in_err-read_rule c =
-    exits _ _ _ _ (err_from_is_err_and c.from-residual-in_err-read_rule.result c.from-residual-in_err-read_rule.ensures.1)
+    exits _ _ _ _ (err_from_is_err_and c.from_residual-in_err-read_rule.result c.from_residual-in_err-read_rule.ensures.1)
     (read_fault_from _ _ c.if-text-gt-LONGEST_TEXT.false c.in_ok-pass.ensures c.new-words.result c.in_err-read_rule.field-0.0 (from_first _ _ _ c.new-words.ensures.text c.new-words.ensures.place) (c.in_err-read_rule.ensures bottom))
 
 pub returns-in_err-seen : goal.returns-in_err-seen
 returns-in_err-seen c =
-    exits _ _ _ _ (err_from_is_err_and c.from-residual-in_err-seen.result c.from-residual-in_err-seen.ensures.1)
+    exits _ _ _ _ (err_from_is_err_and c.from_residual-in_err-seen.result c.from_residual-in_err-seen.ensures.1)
     (read_late_slip _ _ c.if-text-gt-LONGEST_TEXT.false c.in_ok-pass.ensures _ _ _ _ c.in_ok-read_rule.ensures (from_first _ _ _ c.new-words.ensures.text c.new-words.ensures.place) _ c.in_err-seen.ensures)
 
 pub returns-in-Some : goal.returns-in-Some

@@ -4,4 +4,4 @@ use Rattle.names.proofs.name.Name.filler.Goals as goal
 
 pub invariant_of-result : goal.invariant_of-result
 unfolding spelled
-invariant_of-result c = (omega arith, (refl, tt))
+invariant_of-result c = record { few = omega arith; legal = refl }

@@ -2,7 +2,7 @@ use Rattle.std.proofs.Common.{refl, ap, ◌∙◌}
 use Rattle.words.specs.Wording.{wording}
 use Rattle.words.specs.declared.kinds.Binding.TheVariants.{And, Or, Implies}
 use Rattle.reading.proofs.Phrases.{was_taken, was_left, and_start, and_more, and_done, or_start, or_more, or_done, rule_more, atom_true, atom_false, atom_name, atom_round, atom_until, unary_before, looked}
-use Rattle.reading.proofs.levels.+read_and_read_atom_read_or_read_rule_read_unary_read_until.Goals as goal
+use Rattle.reading.proofs.levels.+levels.Goals as goal
 
 pub read_and-loop-kind-init : goal.read_and-loop-kind-init
 read_and-loop-kind-init t c = and_start _ _ _
@@ -24,9 +24,9 @@ read_atom-returns-in-False t c = atom_false _ _ _ _ _ _ _ (ap wording c.in-False
 pub read_atom-returns-in-Name : goal.read_atom-returns-in-Name
 read_atom-returns-in-Name t c = atom_name _ _ _ _ _ _ _ _ (ap wording c.in-Name.is) c.named.ensures c.push-in-Name.ensures
 
-pub read_atom-returns-in_ok-read_rule : goal.read_atom-returns-in_ok-read_rule
-read_atom-returns-in_ok-read_rule t c =
-    atom_round _ _ _ _ _ _ _ _ c.expect.result (ap wording c.in-Open.is) c.in_ok-read_rule.ensures c.expect.ensures
+pub read_atom-returns-in_ok-read_rule-in-Open : goal.read_atom-returns-in_ok-read_rule-in-Open
+read_atom-returns-in_ok-read_rule-in-Open t c =
+    atom_round _ _ _ _ _ _ _ _ c.expect.result (ap wording c.in-Open.is) c.in_ok-read_rule-in-Open.ensures c.expect.ensures
 
 pub read_or-loop-kind-init : goal.read_or-loop-kind-init
 read_or-loop-kind-init t c = or_start _ _ _ c.in_ok-read_and.ensures.no_amp
@@ -43,10 +43,10 @@ pub read_rule-returns-in_ok-read_rule : goal.read_rule-returns-in_ok-read_rule
 read_rule-returns-in_ok-read_rule t c =
     rule_more _ _ _ _ _ _ _ _ _ c.in_ok-read_or.ensures _ (was_taken Implies _ _ _ _ c.in-Some.is c.in_ok-kind.ensures) c.in_ok-read_rule.ensures _ c.of.ensures c.push.ensures
 
-pub read_unary-returns-in_ok-read_unary : goal.read_unary-returns-in_ok-read_unary
-read_unary-returns-in_ok-read_unary t c =
+pub read_unary-returns-in_ok-read_unary-in-Some-kind_at : goal.read_unary-returns-in_ok-read_unary-in-Some-kind_at
+read_unary-returns-in_ok-read_unary-in-Some-kind_at t c =
     unary_before _ _ _ _ _ _ _ _ _ _ _ c.in-Some-kind_at.ensures (looked _ _ _ _ c.in-Some.is c.in_ok-seen.ensures).0
-    (record { same_text = refl; further = (looked _ _ _ _ c.in-Some.is c.in_ok-seen.ensures).1 }) c.in_ok-read_unary.ensures c.of.ensures c.push.ensures
+    (record { same_text = refl; further = (looked _ _ _ _ c.in-Some.is c.in_ok-seen.ensures).1 }) c.in_ok-read_unary-in-Some-kind_at.ensures c.of.ensures c.push.ensures
 
 pub read_until-returns : goal.read_until-returns
 read_until-returns t c = λ q e.

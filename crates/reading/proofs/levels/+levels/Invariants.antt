@@ -1,7 +1,7 @@
 use Rattle.std.proofs.Common.{◌+◌, ◌-◌, ◌*◌, length}
 use Rattle.names.specs.Lists.{names_of}
 use Rattle.reading.proofs.Phrases.{MoreAnd, MoreOr}
-use Rattle.reading.proofs.levels.+read_and_read_atom_read_or_read_rule_read_unary_read_until.Given as goal
+use Rattle.reading.proofs.levels.+levels.Given as goal
 
 -- the bytes left, and among calls at one place the level
 abbrev pub decreases-read_rule : goal.decreases-read_rule
