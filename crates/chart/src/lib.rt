@@ -1,4 +1,6 @@
 //! The chart of any flow, as text: a line for each state, and a line of counts.
+#![tactic(auto)]
+
 ghost use Rattle.std.specs.Prelude.{◌≡◌, ◌++◌, map, IfOk, string_bytes, codes, OnOk};
 ghost use Rattle.chart.specs.Chart.{start_word, name_of, label_words, next_words, state_line, chart_of};
 

@@ -1,4 +1,6 @@
 //! Flows: the charts of what a listing can become, and two kinds of them.
+#![tactic(auto)]
+
 ghost use Rattle.std.specs.Prelude.{◌≡◌, length, slice_index};
 ghost use Rattle.flow.specs.Meaning.{Meaning, Limits};
 

@@ -1,4 +1,5 @@
 //! Examples of flows and charts: the ticket flow, rows of seats, every refusal and every limit.
+#![tactic(auto)]
 
 mod charts;
 mod seat_rows;

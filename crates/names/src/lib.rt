@@ -1,4 +1,6 @@
 //! The names of labels, and the name list of a rule.
+#![tactic(auto)]
+
 mod faults;
 mod name;
 mod names;

@@ -1,4 +1,6 @@
 //! From a text to the parts of its rule, by a name list: the levels of the grammar.
+#![tactic(auto)]
+
 mod faults;
 mod levels;
 mod part;

@@ -1,4 +1,6 @@
 //! A house rule: read from text, kept as a tree of parts, and written again.
+#![tactic(auto)]
+
 mod operands;
 mod rule;
 mod sign;

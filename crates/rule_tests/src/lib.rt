@@ -1,4 +1,5 @@
 //! Examples of rules: texts that are read and refused, every limit, parts with their operands and signs, writing.
+#![tactic(auto)]
 
 mod parts;
 mod reading;

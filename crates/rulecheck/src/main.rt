@@ -1,4 +1,6 @@
 //! `rulecheck`, first form: prints the chart of the ticket flow and of a row of two seats, and counts both.
+#![tactic(auto)]
+
 ghost use Rattle.std.specs.Prelude.{◌≡◌, [], ◌∷◌, IfOk, string_bytes};
 ghost use Rattle.flow.specs.Seats.{row_meaning};
 ghost use Rattle.flow.specs.Tables.{table_meaning};

@@ -1,4 +1,6 @@
 //! The words of a rule text: the kinds of parts, the words, and a reader that finds one after the other.
+#![tactic(auto)]
+
 mod faults;
 mod kinds;
 mod scan;
