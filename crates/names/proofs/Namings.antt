@@ -5,7 +5,7 @@ use Rattle.std.proofs.lemmas.List.{take_at, take_all, take_more, take_more_set, 
 use Rattle.grammar.specs.Forms.Form.{no_form, leaf}
 use Rattle.grammar.specs.Words.{same}
 use Rattle.grammar.specs.Answering.{meant}
-use Rattle.grammar.specs.Reading.{Verdict, naming, absent, fine, wrong_in}
+use Rattle.grammar.specs.Reading.{Verdict, naming, absent, wrong_in}
 use Rattle.grammar.specs.Reading.Verdict.{right, wrong}
 use Rattle.grammar.proofs.Listings.{and_no}
 use Rattle.grammar.proofs.Listings.{wrong_long}

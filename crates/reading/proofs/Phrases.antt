@@ -1,6 +1,6 @@
 -- What one step of a level's reader does to what comes of the text.
 use Rattle.std.proofs.Common.{◌≡◌, ℕ, ◌≤◌, List, [], ◌∷◌, ◌++◌, Some, None, Ok, Err, Option, Result, sym, refl, ap, ◌∙◌, subst, append_assoc, arith}
-use Rattle.grammar.specs.Forms.{Unary, Path, Binary, Part, parts}
+use Rattle.grammar.specs.Forms.{Path, Binary, Part, parts}
 use Rattle.grammar.specs.Forms.Part.{always, never, on_one, on_two}
 use Rattle.grammar.specs.Forms.Form.{yes_form, no_form, leaf, one, two}
 use Rattle.grammar.specs.Forms.Binary.{both, either, implies, until}

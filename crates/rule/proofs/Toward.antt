@@ -3,7 +3,7 @@ use Rattle.std.proofs.Common.{◌≡◌, ℕ, ◌+◌, ◌-◌, ◌<◌, ◌≤�
 use Rattle.grammar.specs.Forms as form
 use Rattle.grammar.specs.Forms.{Form, size, root}
 use Rattle.grammar.specs.Forms.Form.{yes_form, no_form, leaf, one, two}
-use Rattle.grammar.specs.Signs.{Sign, flip, left, right, sign}
+use Rattle.grammar.specs.Signs.{Sign, flip, right, sign}
 use Rattle.grammar.specs.Signs.Sign.{plus}
 use Rattle.grammar.specs.Numbering.{Inside}
 use Rattle.grammar.specs.Numbering.Inside.{whole, in_one, in_left, in_right}

@@ -8,7 +8,6 @@ use Rattle.grammar.specs.Signs as signs
 use Rattle.grammar.specs.Numbering as numbers
 use Rattle.reading.specs.Holding.{first_parts}
 use Rattle.names.specs.Lists.{names_of}
-use Rattle.reading.specs.declared.part.Part.{Part}
 use Rattle.rule.specs.declared.rule.Rule.{Rule}
 
 -- the tree of a rule

@@ -1,5 +1,5 @@
 -- The two flows of the program, as one would draw them.
-use Rattle.std.specs.Prelude.{◌≡◌, ℕ, ◌+◌, ◌<◌, List, [], ◌∷◌, ◌==◌}
+use Rattle.std.specs.Prelude.{◌≡◌, ℕ, ◌+◌, ◌<◌, [], ◌∷◌, ◌==◌}
 use Rattle.flow.specs.Meaning.{Meaning}
 
 -- a ticket: state 0, free and the start, leads to 1; 1, held, to 0 and 2; 2, sold, to itself; label 0 is held, 1 sold
