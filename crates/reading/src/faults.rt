@@ -2,7 +2,7 @@
 ghost use Rattle.std.specs.Prelude.{◌≡◌};
 ghost use Rattle.reading.specs.Refusing.{number_of, place_of};
 ghost use Rattle.reading.specs.declared.faults.GrammarFault.TheVariants.{Word as of_word};
-ghost use Rattle.reading.specs.declared.faults.RuleFault.TheVariants.{Grammar as of-grammar, Names as of-names};
+ghost use Rattle.reading.specs.declared.faults.RuleFault.TheVariants.{Grammar as of_grammar, Names as of_names};
 
 use names::NamesFault;
 use words::WordFault;
@@ -32,7 +32,7 @@ impl From<WordFault> for GrammarFault {
 }
 
 impl From<NamesFault> for RuleFault {
-    ghost from_gives = { λ x y. y ≡ of-names x };
+    ghost from_gives = { λ x y. y ≡ of_names x };
 
     fn from(fault: NamesFault) -> RuleFault {
         RuleFault::Names(fault)
@@ -40,7 +40,7 @@ impl From<NamesFault> for RuleFault {
 }
 
 impl From<WordFault> for RuleFault {
-    ghost from_gives = { λ x y. y ≡ of-grammar (of_word x) };
+    ghost from_gives = { λ x y. y ≡ of_grammar (of_word x) };
 
     fn from(fault: WordFault) -> RuleFault {
         RuleFault::Grammar(GrammarFault::Word(fault))
@@ -48,7 +48,7 @@ impl From<WordFault> for RuleFault {
 }
 
 impl From<GrammarFault> for RuleFault {
-    ghost from_gives = { λ x y. y ≡ of-grammar x };
+    ghost from_gives = { λ x y. y ≡ of_grammar x };
 
     fn from(fault: GrammarFault) -> RuleFault {
         RuleFault::Grammar(fault)

@@ -27,7 +27,7 @@ use Rattle.reading.specs.Holding.{parting}
 use Rattle.rule.specs.Rules.{form_in, length_in, marked, names_in, operands_at, put_into, told}
 use Rattle.reading.specs.declared.part.Part as declared
 use Rattle.rule.specs.declared.operands.Operands as D
-use Rattle.rule.specs.declared.operands.Operands.TheVariants as the-operands
+use Rattle.rule.specs.declared.operands.Operands.TheVariants as the_operands
 use Rattle.rule.specs.declared.rule.Rule.{Rule}
 use Rattle.rule.specs.Signing.{operanding}
 use Rattle.rule.proofs.Turns.{first_sign, kind_turns}
@@ -55,7 +55,7 @@ said true x y e = cc
 said false x y e = absurd (some_none e)
 
 -- the operands of a part, or none where there is no such part
-pub operands_else : (f : Form ℕ) (i : ℕ) (o : Option D.Operands) → told operanding o ≡ operands_at f i → operanding (unwrap_or o the-operands.None) ≡ operands_in f i
+pub operands_else : (f : Form ℕ) (i : ℕ) (o : Option D.Operands) → told operanding o ≡ operands_at f i → operanding (unwrap_or o the_operands.None) ≡ operands_in f i
 operands_else f i None e = past_operands f i e
 operands_else f i (Some x) e = said (ltb i (size f)) (operanding x) (operands_in f i) e
 

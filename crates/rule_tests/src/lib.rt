@@ -2,5 +2,5 @@
 #![tactic(auto)]
 
 mod parts;
-mod reading;
+mod texts;
 mod writing;

@@ -1,6 +1,6 @@
 // Adding parts.
 ghost use Rattle.std.specs.Prelude.{◌≡◌, [], ◌∷◌};
-ghost use Rattle.grammar.specs.Forms.{parts as «Parts-in»};
+ghost use Rattle.grammar.specs.Forms.{parts as parts_in};
 ghost use Rattle.grammar.specs.Answering.{meant};
 ghost use Rattle.reading.specs.Holding.{parting};
 ghost use Rattle.names.specs.Lists.{names_of};
@@ -37,7 +37,7 @@ impl Parts {
 
 // The part of a name: its label, or `false` where the list lacks it.
 pub fn named(names: &Names, name: &[u8]) -> Part
-    ensures { «Parts-in» (meant 0 (names_of names.now) name.now) ≡ parting result ∷ [] }
+    ensures { parts_in (meant 0 (names_of names.now) name.now) ≡ parting result ∷ [] }
 {
     match names.find(name) {
         Some(label) => Part::of_label(label),
