@@ -1,7 +1,7 @@
 //! A list in fixed memory: an array with the number of its places that are in use.
 #![tactic(auto)]
 
-ghost use Rattle.std.specs.Prelude.{◌≡◌, ◌+◌, ◌<◌, ◌≤◌, [], ◌∷◌, ◌++◌, length, ⊤, Ok, Err};
+ghost use Rattle.std.specs.Prelude.{◌≡◌, ◌≤◌, [], ◌∷◌, length, ⊤};
 
 use std::alloc::AllocError;
 
@@ -30,7 +30,7 @@ impl<T: Copy, const N: usize> Clone for FixedVec<T, N> {
 }
 
 impl<T: Copy, const N: usize> FixedVec<T, N> {
-    ghost use Rattle.fixed_vec.specs.FixedVec.{items};
+    ghost use Rattle.fixed_vec.specs.FixedVec.{Extended, items};
 
     /// No item yet. The filler lies in the places that are not in use, and is never seen.
     pub fn new(filler: T) -> Self
@@ -59,7 +59,7 @@ impl<T: Copy, const N: usize> FixedVec<T, N> {
 
     /// Adds an item at the end, or refuses and stays as it is.
     pub fn push(&mut self, item: T) -> Result<(), Full>
-        ensures { elim result [ Ok _ ↦ items self.new ≡ items self.old ++ item ∷ [] | Err _ ↦ (self.new ≡ self.old) × (length (items self.old) ≡ N) ] }
+        ensures { Extended self.old self.new (item ∷ []) result }
     {
         if self.len == N {
             return Err(Full);
@@ -71,7 +71,7 @@ impl<T: Copy, const N: usize> FixedVec<T, N> {
 
     /// Adds items at the end, or refuses and stays as it is.
     pub fn extend_from_slice(&mut self, more: &[T]) -> Result<(), Full>
-        ensures { elim result [ Ok _ ↦ items self.new ≡ items self.old ++ more.now | Err _ ↦ (self.new ≡ self.old) × (N < length (items self.old) + length more.now) ] }
+        ensures { Extended self.old self.new more.now result }
     {
         if more.len() > N - self.len {
             return Err(Full);
