@@ -2,7 +2,7 @@
 ghost use Rattle.std.specs.Prelude.{◌≡◌};
 ghost use Rattle.words.specs.Kinds.{after_of, arity_of, before_of, between_of, binding_of, flips_of};
 
-#[derive(Clone, Copy)]
+#[derive(Clone, Copy, Debug, PartialEq, Eq, Hash)]
 pub enum Kind {
     True,
     False,
@@ -22,7 +22,7 @@ pub enum Kind {
 }
 
 // How strongly a kind holds its operands together, the weakest first.
-#[derive(Clone, Copy, PartialEq)]
+#[derive(Clone, Copy, Debug, PartialEq, Eq, Hash)]
 pub enum Binding {
     Implies,
     Or,

@@ -5,7 +5,7 @@ ghost use Rattle.words.specs.Wording.{kind_of};
 use crate::kinds::Kind;
 
 // A word. A name is a stretch of the caller's text; nothing is copied.
-#[derive(Clone, Copy)]
+#[derive(Clone, Copy, Debug, PartialEq, Eq, Hash)]
 pub enum Word<'a> {
     Open,
     Close,
@@ -30,7 +30,7 @@ pub enum Word<'a> {
 }
 
 // A word with its place, and the place past it.
-#[derive(Clone, Copy)]
+#[derive(Clone, Copy, Debug, PartialEq, Eq, Hash)]
 pub struct Seen<'a> {
     pub at: usize,
     pub word: Word<'a>,
