@@ -3,8 +3,12 @@ use Rattle.std.proofs.Common.{◌≡◌, ℕ, suc, ◌+◌, ◌-◌, ◌<◌, �
 use Rattle.std.proofs.lemmas.Bool.{and_parts}
 use Rattle.words.specs.Wording.{extent}
 use borrow.Author.Tests.{clash}
+use Rattle.std.proofs.lemmas.Bool.Decides.{nat_tests}
 use Rattle.grammar.specs.Scanning.{Front, front, signed}
-use Rattle.grammar.specs.Words.{Word, letter, same, spelled}
+use Rattle.grammar.specs.Words.{Word, letter, inner, same, spelled}
+use Rattle.grammar.specs.Scanning.{run}
+use Rattle.std.specs.List.{take_while}
+use Rattle.std.proofs.lemmas.List.Sums.{take_while-cons}
 use Rattle.grammar.proofs.Chains.{past}
 
 signed_alone : (b : ℕ) (bs : List ℕ) → b ≢ 45 → signed b bs ≡ signed b []
@@ -19,6 +23,17 @@ same_length [] [] e = refl
 same_length [] (y ∷ ys) e = absurd (clash e)
 same_length (x ∷ xs) [] e = absurd (clash e)
 same_length (x ∷ xs) (y ∷ ys) e = ap suc (same_length xs ys (and_parts (eqb x y) (same xs ys) e).1)
+
+pub other_length : (a b : List ℕ) → length a ≢ length b → same a b ≡ false
+other_length [] [] h = absurd (h refl)
+other_length [] (y ∷ ys) h = refl
+other_length (x ∷ xs) [] h = refl
+other_length (x ∷ xs) (y ∷ ys) h = let q = other_length xs ys (λ e. h (ap suc e)) in grind (arith, nat_tests)
+
+-- a run is the front of the bytes that are inner
+pub run_length : (bs : List ℕ) → length (take_while inner bs) ≡ length (run bs)
+run_length [] = refl
+run_length (b ∷ bs) = let e = run_length bs in simp take_while-cons (elim (inner b) as (λ t. length (cond t (b ∷ take_while inner bs) []) ≡ length (cond t (b ∷ run bs) [])) [ true ↦ ap suc e | false ↦ refl ])
 
 -- one link of the chain of reserved words
 link : (b : Bool) (n r : List ℕ) (w rest : Word) → same n r ≡ b → extent w ≡ length r → extent rest ≡ length n → extent (cond b w rest) ≡ length n
