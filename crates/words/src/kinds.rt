@@ -44,7 +44,7 @@ struct KindRow {
     after: &'static [u8],
 }
 
-// A constant or a label: no operands, and nothing around them.
+// No operands: what is written of a constant stands before them, of a label nothing.
 const ATOM: KindRow = KindRow {
     operands: 0,
     flips: false,
@@ -54,14 +54,14 @@ const ATOM: KindRow = KindRow {
     after: b"",
 };
 
-// A sign or a path and a time before one operand.
+// A sign, or a path and a time, before one operand.
 const UNARY: KindRow = KindRow {
     operands: 1,
     binding: Binding::Unary,
     ..ATOM
 };
 
-// A sign between two operands, in parentheses.
+// A sign between two operands, in parentheses; each row says how it binds.
 const BINARY: KindRow = KindRow {
     operands: 2,
     before: b"(",
@@ -77,7 +77,7 @@ const UNTIL: KindRow = KindRow {
     ..ATOM
 };
 
-// A row for each kind, in the order of `Kind`.
+// A row for each kind, in the order of `Kind`: what is as in the rows above is not said again.
 const KINDS: [KindRow; 15] = [
     // True
     KindRow {
@@ -158,6 +158,7 @@ const KINDS: [KindRow; 15] = [
     },
 ];
 
+// One getter for each column; a row handed out whole would need the contracts of all six.
 impl Kind {
     pub fn operands(self) -> u8
         ensures { result ≡ arity_of self }

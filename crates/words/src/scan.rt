@@ -20,7 +20,7 @@ pub fn is_letter(b: u8) -> bool
     matches!(b as char, 'a'..='z' | 'A'..='Z')
 }
 
-// Whether two stretches hold the same bytes.
+// Whether two stretches hold the same bytes: `==` of slices, said by the grammar's own definition.
 pub fn equal(a: &[u8], b: &[u8]) -> bool
     ensures { result ≡ same a.now b.now }
 {
