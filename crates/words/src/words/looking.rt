@@ -113,6 +113,21 @@ fn spaces(text: &[u8], place: usize) -> Option<usize>
     text.iter().skip(place).position(|&b| b != b' ')
 }
 
+// The next word from `place` on, or none where the text ends.
+fn word_at(text: &[u8], place: usize) -> Result<Option<Seen<'_>>, WordFault>
+    requires { place ≤ length text.now }
+    ensures { Looked text.now place result }
+{
+    let Some(skipped) = spaces(text, place) else {
+        return Ok(None);
+    };
+    let spot = Spot {
+        text,
+        at: place + skipped,
+    };
+    spot.word().map(Some)
+}
+
 impl<'a> Words<'a> {
     // A reader at the beginning of a text.
     pub fn new(text: &'a [u8]) -> Words<'a>
@@ -126,14 +141,6 @@ impl<'a> Words<'a> {
     pub fn look(&self) -> Result<Option<Seen<'a>>, WordFault>
         ensures { Looked self.now.text.now self.now.place result }
     {
-        let place = self.place;
-        let Some(skipped) = spaces(self.text, place) else {
-            return Ok(None);
-        };
-        let spot = Spot {
-            text: self.text,
-            at: place + skipped,
-        };
-        spot.word().map(Some)
+        word_at(self.text, self.place)
     }
 }

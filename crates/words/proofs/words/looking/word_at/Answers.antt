@@ -4,7 +4,7 @@ use Rattle.words.specs.Wording.{Begins, Looked}
 use Rattle.words.specs.declared.faults.WordFault.{WordFault}
 use Rattle.words.specs.declared.word.Seen.{Seen}
 use Rattle.words.proofs.Spaces.{skipped, only_spaces}
-use Rattle.words.proofs.words.Words.look.Goals as goal
+use Rattle.words.proofs.words.looking.word_at.Goals as goal
 
 -- a word or a fault after spaces
 looked : (text : List ℕ) (p at : ℕ) (r : Result Seen WordFault) (o : Result (Option Seen) WordFault) → from text p ≡ from text at → p ≤ at → Begins text at r → MatchResult r (λ x. o ≡ Ok (Some x)) (λ e. o ≡ Err e) → Looked text p o
