@@ -38,7 +38,8 @@ pub struct Seen<'a> {
 }
 
 impl Word<'_> {
-    // The kind of the part that the word makes; none for a name, a bracket and `U`.
+    // The kind of the part that the word makes; none for a name, a bracket and `U`. An `Option` and no `TryFrom`, whose
+    // error would say nothing.
     pub fn kind(self) -> Option<Kind>
         ensures { result ≡ kind_of self.entry }
     {
