@@ -24,7 +24,6 @@ use Rattle.reading.specs.declared.faults.GrammarFault.TheVariants as faults
 use Rattle.words.specs.declared.kinds.Binding.{Binding}
 use Rattle.words.specs.declared.kinds.Binding.TheVariants as binds
 use Rattle.words.specs.declared.kinds.Kind.{Kind}
-use Rattle.reading.specs.declared.levels.Due.TheVariants.{Close, Square, Until, Unsquare}
 use Rattle.reading.specs.declared.parts.Parts.{Parts}
 use Rattle.words.specs.declared.word.Seen.{Seen}
 use Rattle.words.specs.declared.words.Words.{Words}
@@ -196,7 +195,7 @@ module _ (names : List (List ℕ)) where
 
 -- inside a bracket, a word that neither goes on nor closes it
 
-round_miss : (f : Tree) (s : Stack a_unary) (x : Stream) (p : ℕ) → Off binds.And x → Off binds.Or x → Off binds.Implies x → Misses Close x p → reads (have f (plain_or (in_round s))) x ≡ stuck p
+round_miss : (f : Tree) (s : Stack a_unary) (x : Stream) (p : ℕ) → Off binds.And x → Off binds.Or x → Off binds.Implies x → Misses close x p → reads (have f (plain_or (in_round s))) x ≡ stuck p
 round_miss f s (end y) p a b c h = ap stuck h
 round_miss f s (slip e y) p a b c h = absurd h
 round_miss f s (next y open_word x) p a b c h = ap stuck h.0
@@ -229,7 +228,7 @@ module _ (names : List (List ℕ)) where
     goes = λ s. give_goes (leaf n) s p (reads (give (leaf n) s) (left r));
   })
 
-  round_done : (a b : Parts) (p : ℕ) (r t t₁ : Words) (x : Result (Unit {0}) GrammarFault) → RuleRead names a b r t → Expected Close t t₁ x → AtomDone names a b p open_word r t₁ x
+  round_done : (a b : Parts) (p : ℕ) (r t t₁ : Words) (x : Result (Unit {0}) GrammarFault) → RuleRead names a b r t → Expected close t t₁ x → AtomDone names a b p open_word r t₁ x
   round_done a b p r t t₁ (Ok u) m h = record {
     form = m.form;
     grown = m.grown;
@@ -243,16 +242,16 @@ module _ (names : List (List ℕ)) where
   round_done a b p r t t₁ (Err (faults.Stray q)) m h = λ s.
       m.goes (in_round s) ∙ round_miss m.form s (left t) q m.no_amp m.no_bar m.no_arrow h
 
-  pub atom_round : (a b : Parts) (p : ℕ) (w : Word) (r t t₁ : Words) (x : Result (Unit {0}) GrammarFault) → w ≡ open_word → RuleRead names a b r t → Expected Close t t₁ x → AtomDone names a b p w r t₁ x
+  pub atom_round : (a b : Parts) (p : ℕ) (w : Word) (r t t₁ : Words) (x : Result (Unit {0}) GrammarFault) → w ≡ open_word → RuleRead names a b r t → Expected close t t₁ x → AtomDone names a b p w r t₁ x
   atom_round a b p w r t t₁ x e m h = subst (λ v. AtomDone names a b p v r t₁ x) (sym e) (round_done a b p r t t₁ x m h)
 
-module _ (names : List (List ℕ)) (q : Path) (p : ℕ) (a₀ a₁ a₂ a₃ : Parts) (r r₁ r₂ r₃ r₄ r₅ : Words) (a : Expected Square r r₁ (Ok tt)) (f : RuleRead names a₀ a₁ r₁ r₂) (b : Expected Until r₂ r₃ (Ok tt)) (g : RuleRead names a₁ a₂ r₃ r₄) where
+module _ (names : List (List ℕ)) (q : Path) (p : ℕ) (a₀ a₁ a₂ a₃ : Parts) (r r₁ r₂ r₃ r₄ r₅ : Words) (a : Expected square r r₁ (Ok tt)) (f : RuleRead names a₀ a₁ r₁ r₂) (b : Expected u_word r₂ r₃ (Ok tt)) (g : RuleRead names a₁ a₂ r₃ r₄) where
   to_right : (s : Stack a_unary) → reads (need s) (next p (path q) (left r)) ≡ reads (have g.form (plain_or (in_right q f.form s))) (left r₄)
   to_right s =
       ap (reads (need_square q s)) a.1.1 ∙ f.goes (in_left q s)
       ∙ ap (reads (have f.form (plain_or (in_left q s)))) b.1.1 ∙ g.goes (in_right q f.form s)
 
-  until_done : Expected Unsquare r₄ r₅ (Ok tt) → Added a₂ a₃ (on_two (until q)) → AtomRead names a₀ a₃ p (path q) r r₅
+  until_done : Expected unsquare r₄ r₅ (Ok tt) → Added a₂ a₃ (on_two (until q)) → AtomRead names a₀ a₃ p (path q) r r₅
   until_done h k = record {
     form = two (until q) f.form g.form;
     grown = λ xs x. pair_grown names a₁ a₂ a₃ (until q) f.form g.form xs g.grown k (f.grown xs x);
@@ -263,7 +262,7 @@ module _ (names : List (List ℕ)) (q : Path) (p : ℕ) (a₀ a₁ a₂ a₃ : P
         ∙ give_goes (two (until q) f.form g.form) s h.1.0 (reads (give (two (until q) f.form g.form) s) (left r₅));
   }
 
-  pub atom_until : (x : Part ℕ) → x ≡ on_two (until q) → Expected Unsquare r₄ r₅ (Ok tt) → Added a₂ a₃ x → AtomRead names a₀ a₃ p (path q) r r₅
+  pub atom_until : (x : Part ℕ) → x ≡ on_two (until q) → Expected unsquare r₄ r₅ (Ok tt) → Added a₂ a₃ x → AtomRead names a₀ a₃ p (path q) r r₅
   atom_until x e h k = until_done h (added_as a₂ a₃ x (on_two (until q)) e k)
 
 pub unary_before : (names : List (List ℕ)) (k : Kind) (p : ℕ) (w : Word) (x : Part ℕ) (a b d : Parts) (r r₁ t : Words) → Made binds.Unary w (Some k) → left r ≡ next p w (left r₁) → Moved r r₁ → UnaryRead names a b r₁ t → x ≡ part_of k 0 → Added b d x → UnaryRead names a d r t

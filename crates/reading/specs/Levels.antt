@@ -22,8 +22,6 @@ use Rattle.words.specs.declared.kinds.Kind.{Kind}
 use Rattle.words.specs.declared.kinds.Kind.TheVariants as kinds
 use Rattle.words.specs.declared.kinds.Binding.{Binding}
 use Rattle.words.specs.declared.kinds.Binding.TheVariants as binds
-use Rattle.reading.specs.declared.levels.Due.{Due}
-use Rattle.reading.specs.declared.levels.Due.TheVariants.{Close, Square, Until, Unsquare}
 
 -- what is left of a reader's text
 abbrev pub left : Words → word.Stream
@@ -83,21 +81,15 @@ Taken b r t (Ok (Some k)) = Moved r t × ((p : ℕ) × ((w : word.Word) × ((lef
 Taken b r t (Ok None) = (t ≡ r) × Off b (left r)
 Taken b r t (Err e) = (st : State) → reads st (left r) ≡ fell e
 
-abbrev pub due_word : Due → word.Word
-due_word Close = word.close
-due_word Square = word.square
-due_word Until = word.u_word
-due_word Unsquare = word.unsquare
-
 -- another word stands there, or none
-abbrev pub Misses : Due → word.Stream → ℕ → Type 0
+abbrev pub Misses : word.Word → word.Stream → ℕ → Type 0
 Misses m (word.end q) p = q ≡ p
 Misses m (word.slip e q) p = ⊥
-Misses m (word.next q w s) p = (q ≡ p) × (w ≢ due_word m)
+Misses m (word.next q w s) p = (q ≡ p) × (w ≢ m)
 
 -- a word that has to stand there was taken, or is not there
-abbrev pub Expected : Due → Words → Words → Result (Unit {0}) GrammarFault → Type 0
-Expected m r t (Ok u) = Moved r t × ((p : ℕ) × (left r ≡ word.next p (due_word m) (left t)))
+abbrev pub Expected : word.Word → Words → Words → Result (Unit {0}) GrammarFault → Type 0
+Expected m r t (Ok u) = Moved r t × ((p : ℕ) × (left r ≡ word.next p m (left t)))
 Expected m r t (Err (faults.Word e)) = (st : State) → reads st (left r) ≡ fell e
 Expected m r t (Err (faults.Stray p)) = Misses m (left r) p
 

@@ -1,6 +1,6 @@
 // The levels of the grammar. Each reads one phrase, and its contract says what comes of the text whatever stands around it.
 ghost use Rattle.std.specs.Prelude.{◌≡◌, Some as «some», MatchBool, ◌≢◌};
-ghost use Rattle.reading.specs.Levels.{AndDone, AtomDone, Expected, Made, OrDone, RuleDone, Taken, UnaryDone, UntilDone, due_word, strength};
+ghost use Rattle.reading.specs.Levels.{AndDone, AtomDone, Expected, Made, OrDone, RuleDone, Taken, UnaryDone, UntilDone, strength};
 ghost use Rattle.names.specs.Lists.{names_of};
 ghost use Rattle.words.specs.Wording.{wording};
 ghost use Rattle.words.specs.declared.kinds.Binding.TheVariants.{Unary as unaries};
@@ -11,86 +11,46 @@ use crate::parts::{Parts, named};
 use names::Names;
 use words::{Binding, Kind, Word, WordFault, Words};
 
-// A word that has to stand at its place.
-#[derive(Clone, Copy)]
-pub enum Due {
-    Close,
-    Square,
-    Until,
-    Unsquare,
-}
-
 // The kind that the word makes, if it binds so strongly.
 fn kind_at(word: Word<'_>, binding: Binding) -> Option<Kind>
     ensures { Made binding (wording word.entry) result }
 {
-    match word.kind() {
-        Some(kind) => {
-            if kind.binding() == binding {
-                Some(kind)
-            } else {
-                None
-            }
-        }
-        None => None,
-    }
+    word.kind().filter(|kind| kind.binding() == binding)
 }
 
 // Takes the next word if it binds so strongly.
 fn takes(words: &mut Words<'_>, binding: Binding) -> Result<Option<Kind>, WordFault>
     ensures { Taken binding words.old words.new result }
 {
-    match words.look()? {
-        Some(seen) => {
-            let kind = kind_at(seen.word, binding);
-            if kind.is_some() {
-                words.place = seen.after;
-            }
-            Ok(kind)
-        }
-        None => Ok(None),
+    let Some(seen) = words.look()? else {
+        return Ok(None);
+    };
+    let kind = kind_at(seen.word, binding);
+    if kind.is_some() {
+        words.place = seen.after;
     }
+    Ok(kind)
 }
 
-// Whether the word is the one that is due.
-fn is_due(word: Word<'_>, due: Due) -> bool
-    ensures { MatchBool result (wording word.entry ≡ due_word due) (wording word.entry ≢ due_word due) }
+// Whether the word is the one that is due. In `expect` itself the search stops at its limits on what `==` says of words.
+fn is_due(word: Word<'_>, due: Word<'_>) -> bool
+    ensures { MatchBool result (wording word.entry ≡ wording due.entry) (wording word.entry ≢ wording due.entry) }
 {
-    match due {
-        Due::Close => match word {
-            Word::Close => true,
-            _ => false,
-        },
-        Due::Square => match word {
-            Word::Square => true,
-            _ => false,
-        },
-        Due::Until => match word {
-            Word::U => true,
-            _ => false,
-        },
-        Due::Unsquare => match word {
-            Word::Unsquare => true,
-            _ => false,
-        },
-    }
+    word == due
 }
 
 // Takes the word that is due, or says where it is missing.
-fn expect(words: &mut Words<'_>, due: Due) -> Result<(), GrammarFault>
-    ensures { Expected due words.old words.new result }
+fn expect(words: &mut Words<'_>, due: Word<'_>) -> Result<(), GrammarFault>
+    ensures { Expected (wording due.entry) words.old words.new result }
 {
-    match words.look()? {
-        Some(seen) => {
-            if is_due(seen.word, due) {
-                words.place = seen.after;
-                Ok(())
-            } else {
-                Err(GrammarFault::Stray(seen.at))
-            }
-        }
-        None => Err(GrammarFault::Stray(words.text.len())),
+    let Some(seen) = words.look()? else {
+        return Err(GrammarFault::Stray(words.text.len()));
+    };
+    if !is_due(seen.word, due) {
+        return Err(GrammarFault::Stray(seen.at));
     }
+    words.place = seen.after;
+    Ok(())
 }
 
 #[cycle(levels)]
@@ -180,7 +140,7 @@ fn read_atom(
         }
         Word::Open => {
             read_rule(words, names, parts)?;
-            expect(words, Due::Close)
+            expect(words, Word::Close)
         }
         Word::A => read_until(words, names, parts, at, Kind::Au),
         Word::E => read_until(words, names, parts, at, Kind::Eu),
@@ -199,11 +159,11 @@ fn read_until(
 ) -> Result<(), GrammarFault>
     ensures { UntilDone (names_of names.now) parts.old parts.new at kind words.old words.new result }
 {
-    expect(words, Due::Square)?;
+    expect(words, Word::Square)?;
     read_rule(words, names, parts)?;
-    expect(words, Due::Until)?;
+    expect(words, Word::U)?;
     read_rule(words, names, parts)?;
-    expect(words, Due::Unsquare)?;
+    expect(words, Word::Unsquare)?;
     parts.push(Part::of(kind));
     Ok(())
 }
