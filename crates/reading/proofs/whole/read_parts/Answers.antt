@@ -30,9 +30,9 @@ returns-in-Some c =
 pub returns-then-parts-gt-MOST_PARTS : goal.returns-then-parts-gt-MOST_PARTS
 returns-then-parts-gt-MOST_PARTS c =
     read_many _ _ c.if-text-gt-LONGEST_TEXT.false c.in_ok-pass.ensures _ _ _ _ c.in_ok-read_rule.ensures (from_first _ _ _ c.new-words.ensures.text c.new-words.ensures.place) _
-    (looked_end _ _ _ c.in-None.is c.in_ok-seen.ensures) c.none-parts.ensures c.if-parts-gt-MOST_PARTS.true
+    (looked_end _ _ _ c.in_default.is c.in_ok-seen.ensures) c.none-parts.ensures c.if-parts-gt-MOST_PARTS.true
 
-pub returns-else-parts-gt-MOST_PARTS : goal.returns-else-parts-gt-MOST_PARTS
-returns-else-parts-gt-MOST_PARTS c =
+pub returns : goal.returns
+returns c =
     read_all _ _ c.if-text-gt-LONGEST_TEXT.false c.in_ok-pass.ensures _ _ _ _ c.in_ok-read_rule.ensures (from_first _ _ _ c.new-words.ensures.text c.new-words.ensures.place) _
-    (looked_end _ _ _ c.in-None.is c.in_ok-seen.ensures) c.none-parts.ensures c.if-parts-gt-MOST_PARTS.false
+    (looked_end _ _ _ c.in_default.is c.in_ok-seen.ensures) c.none-parts.ensures c.if-parts-gt-MOST_PARTS.false
