@@ -3,7 +3,7 @@ ghost use Rattle.names.specs.Lists.{names_of};
 ghost use Rattle.reading.specs.Whole.{PartsRead, Passed};
 
 use crate::faults::{GrammarFault, RuleFault};
-use crate::levels::read_rule;
+use crate::levels::Reader;
 use crate::part::Part;
 use crate::parts::Parts;
 use fixed_vec::FixedVec;
@@ -35,14 +35,17 @@ pub fn read_parts(names: &Names, text: &[u8]) -> Result<FixedVec<Part, 64>, Rule
         return Err(RuleFault::Text);
     }
     pass(text)?;
-    let mut words = Words::new(text);
-    let mut parts = Parts::none();
-    read_rule(&mut words, names, &mut parts)?;
-    if let Some(seen) = words.look()? {
+    let mut reader = Reader {
+        words: Words::new(text),
+        names,
+        parts: Parts::none(),
+    };
+    reader.read_rule()?;
+    if let Some(seen) = reader.words.look()? {
         return Err(RuleFault::Grammar(GrammarFault::Stray(seen.at)));
     }
-    if parts.count > MOST_PARTS {
+    if reader.parts.count > MOST_PARTS {
         return Err(RuleFault::Parts(text.len()));
     }
-    Ok(parts.kept)
+    Ok(reader.parts.kept)
 }
