@@ -1,5 +1,5 @@
 -- What one step of a level's reader does to what comes of the text.
-use Rattle.std.proofs.Common.{◌≡◌, ℕ, List, [], ◌∷◌, ◌++◌, Some, None, Ok, Err, Option, Result, sym, refl, ap, ◌∙◌, subst, append_assoc, arith}
+use Rattle.std.proofs.Common.{◌≡◌, ℕ, List, [], ◌∷◌, ◌++◌, Some, Ok, Err, Result, sym, refl, ap, ◌∙◌, subst, append_assoc, arith}
 use Rattle.grammar.specs.Forms.{Path, Binary, Part}
 use Rattle.grammar.specs.Forms.Part.{on_one, on_two}
 use Rattle.grammar.specs.Forms.Form.{one, two}
@@ -17,8 +17,8 @@ use Rattle.grammar.specs.Reading.Outcome.{stuck}
 use Rattle.names.specs.Lists.{names_of}
 use Rattle.reading.specs.Growing.{Holds, Added, Grown, parts_of}
 use Rattle.words.specs.Kinds.{part_of}
-use Rattle.reading.specs.Levels.{names_in, left, Off, Moved, Misses, Made, Makes, Taken, Expected, Next, Adds, Phrase, UnaryRead, AtomRead, AndRead, OrRead, RuleRead, AtomDone, need_and, have_or}
-use Rattle.words.specs.Wording.{wording, Looked}
+use Rattle.reading.specs.Levels.{names_in, left, Off, Moved, Misses, Made, Makes, Taken, Expected, Next, Adds, Phrase, UnaryRead, AtomRead, AndRead, RuleRead, AtomDone, need_and, have_or}
+use Rattle.words.specs.Wording.{wording}
 use Rattle.reading.specs.declared.faults.GrammarFault.{GrammarFault}
 use Rattle.reading.specs.declared.faults.GrammarFault.TheVariants as faults
 use Rattle.words.specs.declared.kinds.Binding.{Binding}
@@ -28,13 +28,6 @@ use Rattle.reading.specs.declared.levels.Reader.{Reader}
 use Rattle.reading.specs.declared.parts.Parts.{Parts}
 use Rattle.words.specs.declared.word.Seen.{Seen}
 use Rattle.words.specs.declared.words.Words.{Words}
-
--- a word of that binding was taken, or not
-pub was_taken : (b : Binding) (r t : Words) (o : Option Kind) (k : Kind) → o ≡ Some k → Taken b r t (Ok o) → Taken b r t (Ok (Some k))
-was_taken b r t o k e h = subst (λ x. Taken b r t (Ok x)) e h
-
-pub was_left : (b : Binding) (r t : Words) (o : Option Kind) → o ≡ None → Taken b r t (Ok o) → (t ≡ r) × Off b (left r)
-was_left b r t o e h = subst (λ x. Taken b r t (Ok x)) e h
 
 -- a sign with two operands was taken
 pub record Took (v : Word) (o : Binary) (r t : Words) (k : Kind) : Type 0 where
@@ -47,15 +40,15 @@ took : (b : Binding) (v : Word) (o : Binary) (r t : Words) (k : Kind) → ((w : 
 took b v o r t k f (m, (p, (w, (e, y)))) =
     record { moved = m; place = p; shown = e ∙ ap (λ u. next p u (left t)) (f w y).0; joins = (f w y).1 }
 
-module _ (r t : Words) (o : Option Kind) (k : Kind) (some : o ≡ Some k) where
-  pub took_amp : Taken binds.And r t (Ok o) → Took amp both r t k
-  took_amp h = took binds.And amp both r t k (λ w m. (m.0, ap (λ x. part_of x 0) m.1)) (was_taken binds.And r t o k some h)
+module _ (r t : Words) (k : Kind) where
+  pub took_amp : Taken binds.And r t (Ok (Some k)) → Took amp both r t k
+  took_amp h = took binds.And amp both r t k (λ w m. (m.0, ap (λ x. part_of x 0) m.1)) h
 
-  pub took_bar : Taken binds.Or r t (Ok o) → Took bar either r t k
-  took_bar h = took binds.Or bar either r t k (λ w m. (m.0, ap (λ x. part_of x 0) m.1)) (was_taken binds.Or r t o k some h)
+  pub took_bar : Taken binds.Or r t (Ok (Some k)) → Took bar either r t k
+  took_bar h = took binds.Or bar either r t k (λ w m. (m.0, ap (λ x. part_of x 0) m.1)) h
 
-  pub took_arrow : Taken binds.Implies r t (Ok o) → Took arrow implies r t k
-  took_arrow h = took binds.Implies arrow implies r t k (λ w m. (m.0, ap (λ x. part_of x 0) m.1)) (was_taken binds.Implies r t o k some h)
+  pub took_arrow : Taken binds.Implies r t (Ok (Some k)) → Took arrow implies r t k
+  took_arrow h = took binds.Implies arrow implies r t k (λ w m. (m.0, ap (λ x. part_of x 0) m.1)) h
 
 added_as : (a b : Parts) (p q : Part ℕ) → p ≡ q → Added a b p → Added a b q
 added_as a b p q e h = subst (Added a b) e h
@@ -148,21 +141,6 @@ module _ (r t u : Reader) (w : Words) (b : Parts) (k : Kind) (x : Part ℕ) (e :
     no_arrow = n.no_arrow;
   }
 
--- an operand alone
-pub and_first : (r t : Reader) → UnaryRead r t → Phrase need_and have r t
-and_first r t u = record { form = u.form; adds = u.adds; goes = λ s. u.goes (plain_and s) }
-
-pub or_first : (r t : Reader) → AndRead r t → Phrase fresh have_or r t
-or_first r t u = record { form = u.phrase.form; adds = u.phrase.adds; goes = λ s. u.phrase.goes (plain_or s) }
-
--- no further sign of the level comes
-module _ (r t : Reader) (w : Words) where
-  pub and_done : Phrase need_and have r t → (w ≡ t.words) × Off binds.And (left t.words) → AndRead r (record t { words = w })
-  and_done m k = subst (λ v. AndRead r (record t { words = v })) (sym k.0) (record { phrase = m; no_amp = k.1 })
-
-  pub or_done : Phrase fresh have_or r t → Off binds.And (left t.words) → (w ≡ t.words) × Off binds.Or (left t.words) → OrRead r (record t { words = w })
-  or_done m h k = subst (λ v. OrRead r (record t { words = v })) (sym k.0) (record { phrase = m; no_amp = h; no_bar = k.1 })
-
 -- inside a bracket, a word that neither goes on nor closes it
 
 round_miss : (f : Tree) (s : Stack a_unary) (x : Stream) (p : ℕ) → Off binds.And x → Off binds.Or x → Off binds.Implies x → Misses close x p → reads (have f (plain_or (in_round s))) x ≡ stuck p
@@ -248,7 +226,3 @@ unary_before r u w b n k x (moved, shown) (o, e, y) h z q = record {
   };
   goes = λ s. ap (reads (need s)) (shown ∙ ap (λ v. next n.at v (left w)) e) ∙ h.goes (after_before o s);
 }
-
--- what a look showed, at the word that it found
-pub looked : (text : List ℕ) (p : ℕ) (o : Option Seen) (s : Seen) → o ≡ Some s → Looked text p (Ok o) → Looked text p (Ok (Some s))
-looked text p o s e h = subst (λ y. Looked text p (Ok y)) e h

@@ -1,5 +1,5 @@
 -- From what the levels say to the answer of a whole text.
-use Rattle.std.proofs.Common.{◌≡◌, ℕ, ◌<◌, ◌≤◌, cond, List, [], length, None, Ok, Err, Option, Result, sym, refl, ap, ◌∙◌, subst, arith, take_all, le-leb}
+use Rattle.std.proofs.Common.{◌≡◌, ℕ, ◌<◌, ◌≤◌, cond, List, [], length, sym, refl, ap, ◌∙◌, subst, arith, take_all, le-leb}
 use borrow.Author.Tests.{lt-leb}
 use Rattle.grammar.specs.Forms.{Form, parts}
 use Rattle.grammar.specs.Words.{Word, Stream}
@@ -23,19 +23,15 @@ use Rattle.reading.specs.Growing.{Holds, parts_of}
 use Rattle.reading.specs.Levels.{names_in, left, fell, faulted, Off, RuleRead}
 use Rattle.reading.specs.Refusing.{refused}
 use Rattle.reading.specs.Holding.{parts_in}
-use Rattle.reading.specs.Whole.{slip_halt, PartsRead}
-use Rattle.words.specs.Wording.{slipping, Looked}
+use Rattle.reading.specs.Whole.{slip_halt}
+use Rattle.words.specs.Wording.{slipping}
 use Rattle.words.specs.declared.faults.WordFault.{WordFault}
 use Rattle.words.specs.declared.faults.WordFault.TheVariants.{Strange, Long}
 use Rattle.reading.specs.declared.faults.GrammarFault.{GrammarFault}
 use Rattle.reading.specs.declared.faults.GrammarFault.TheVariants as faults
-use Rattle.reading.specs.declared.faults.RuleFault.{RuleFault}
 use Rattle.reading.specs.declared.faults.RuleFault.TheVariants.{Grammar}
 use Rattle.words.specs.declared.kinds.Binding.TheVariants as binds
 use Rattle.reading.specs.declared.levels.Reader.{Reader}
-use Rattle.reading.specs.declared.part.Part.{Part}
-use Rattle.fixed_vec.specs.declared.FixedVec.{FixedVec}
-use Rattle.words.specs.declared.word.Seen.{Seen}
 use Rattle.words.specs.declared.words.Words.{Words}
 
 -- at the outermost level a word that is no sign goes on with nothing
@@ -124,15 +120,3 @@ module _ (names : List (List ℕ)) (text : List ℕ) where
               (holds_all k).kept ∙ take_all 64 (parts f) (omega arith),
             ),
           )
-
--- a reader at the beginning
-pub from_first : (whole text : List ℕ) (p : ℕ) → whole ≡ text → p ≡ 0 → from whole p ≡ from text 0
-from_first whole text p e f = λ i. from (e i) (f i)
-
--- the exit of a `?`
-pub exits : (names : List (List ℕ)) (text : List ℕ) (r : Result (FixedVec Part 64) RuleFault) (e : RuleFault) → (y : RuleFault) × (r ≡ Err y) × (y ≡ e) → read_of names text ≡ refused e → PartsRead names text r
-exits names text r e p h = subst (PartsRead names text) (sym (p.1 ∙ ap Err p.2)) h
-
--- what a look showed at the end
-pub looked_end : (text : List ℕ) (p : ℕ) (o : Option Seen) → o ≡ None → Looked text p (Ok o) → from text p ≡ end (length text)
-looked_end text p o e h = subst (λ y. Looked text p (Ok y)) e h

@@ -7,7 +7,7 @@ use Rattle.reading.proofs.levels.Reader.+levels.Goals as goal
 
 pub read_and-loop-kind-preserved : goal.read_and-loop-kind-preserved
 read_and-loop-kind-preserved t c =
-    and_more _ _ _ _ _ _ _ c.of.ensures c.push.ensures c.loop-kind.invariant (took_amp _ _ _ _ c.in-Some.is c.in_ok-kind.ensures) c.in_ok-read_unary-2.ensures
+    and_more _ _ _ _ _ _ _ c.of.ensures c.push.ensures c.loop-kind.invariant (took_amp _ _ _ (rw c.in-Some.is at c.in_ok-kind.ensures)) c.in_ok-read_unary-2.ensures
 
 pub read_atom-returns-in-True : goal.read_atom-returns-in-True
 read_atom-returns-in-True t c =
@@ -28,13 +28,13 @@ read_atom-returns-in_ok-read_rule-in-Open t c =
 pub read_or-loop-kind-preserved : goal.read_or-loop-kind-preserved
 read_or-loop-kind-preserved t c = record {
   phrase =
-      or_more _ _ _ _ _ _ _ c.of.ensures c.push.ensures c.loop-kind.invariant.phrase (took_bar _ _ _ _ c.in-Some.is c.in_ok-kind.ensures) c.in_ok-read_and-2.ensures;
+      or_more _ _ _ _ _ _ _ c.of.ensures c.push.ensures c.loop-kind.invariant.phrase (took_bar _ _ _ (rw c.in-Some.is at c.in_ok-kind.ensures)) c.in_ok-read_and-2.ensures;
   no_amp = search rules;
 }
 
 pub read_rule-returns-in_ok-read_rule : goal.read_rule-returns-in_ok-read_rule
 read_rule-returns-in_ok-read_rule t c =
-    rule_more _ _ _ _ _ _ _ c.of.ensures c.push.ensures c.in_ok-read_or.ensures.phrase (took_arrow _ _ _ _ c.in-Some.is c.in_ok-kind.ensures) c.in_ok-read_rule.ensures
+    rule_more _ _ _ _ _ _ _ c.of.ensures c.push.ensures c.in_ok-read_or.ensures.phrase (took_arrow _ _ _ (rw c.in-Some.is at c.in_ok-kind.ensures)) c.in_ok-read_rule.ensures
 
 pub read_unary-returns : goal.read_unary-returns
 read_unary-returns t c = unary_before _ _ _ _ c.in_ok-seen.seen _ _ c.in_ok-seen.ensures c.in-Some.ensures c.in_ok-read_unary.ensures c.of.ensures c.push.ensures
