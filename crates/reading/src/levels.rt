@@ -81,6 +81,9 @@ impl Reader<'_> {
         Ok(())
     }
 
+    // This level and the next stay two functions. One over the binding would choose the level below by a switch and rule
+    // out the other bindings by a `requires`; one that takes the level below as a closure would want a number beside it,
+    // for the measure of the cycle alone.
     #[cycle(levels)]
     fn read_or(&mut self) -> Result<(), GrammarFault>
         ensures { OrDone self.old self.new result }
