@@ -25,10 +25,11 @@ pub read_atom-returns-in_ok-read_rule-in-Open : goal.read_atom-returns-in_ok-rea
 read_atom-returns-in_ok-read_rule-in-Open t c =
     atom_round _ _ _ _ _ c.expect.result (ap wording c.in-Open.is) c.in_ok-read_rule-in-Open.ensures c.expect.ensures
 
+-- what the operand is, the search finds among the facts, and no step of the code is named for it
 pub read_or-loop-kind-preserved : goal.read_or-loop-kind-preserved
 read_or-loop-kind-preserved t c = record {
   phrase =
-      or_more _ _ _ _ _ _ _ c.of.ensures c.push.ensures c.loop-kind.invariant.phrase (took_bar _ _ _ (rw c.in-Some.is at c.in_ok-kind.ensures)) c.in_ok-read_and-2.ensures;
+      or_more _ _ _ _ _ _ _ c.of.ensures c.push.ensures c.loop-kind.invariant.phrase (took_bar _ _ _ (rw c.in-Some.is at c.in_ok-kind.ensures)) (search rules);
   no_amp = search rules;
 }
 
