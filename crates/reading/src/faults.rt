@@ -8,14 +8,14 @@ use names::NamesFault;
 use words::WordFault;
 
 // Why a text is none of the grammar: a fault of its words, or the place with which no text of the grammar goes on.
-#[derive(Clone, Copy)]
+#[derive(Clone, Copy, Debug, PartialEq, Eq, Hash)]
 pub enum GrammarFault {
     Word(WordFault),
     Stray(usize),
 }
 
 // Why a rule is not read: its names, a text over 1,024 bytes, its grammar, or over 64 parts in a text of that length.
-#[derive(Clone, Copy)]
+#[derive(Clone, Copy, Debug, PartialEq, Eq, Hash)]
 pub enum RuleFault {
     Names(NamesFault),
     Text,
@@ -75,12 +75,12 @@ impl RuleFault {
     {
         match self {
             RuleFault::Names(NamesFault::Many) => 32,
-            RuleFault::Names(NamesFault::Entry(entry)) => entry,
             RuleFault::Text => 1024,
-            RuleFault::Grammar(GrammarFault::Word(WordFault::Strange(place))) => place,
-            RuleFault::Grammar(GrammarFault::Word(WordFault::Long(place))) => place,
-            RuleFault::Grammar(GrammarFault::Stray(place)) => place,
-            RuleFault::Parts(length) => length,
+            RuleFault::Names(NamesFault::Entry(place))
+            | RuleFault::Grammar(GrammarFault::Word(WordFault::Strange(place)))
+            | RuleFault::Grammar(GrammarFault::Word(WordFault::Long(place)))
+            | RuleFault::Grammar(GrammarFault::Stray(place))
+            | RuleFault::Parts(place) => place,
         }
     }
 }
