@@ -2,7 +2,7 @@
 use Rattle.std.proofs.Common.{◌≡◌, ℕ, ◌+◌, ◌≤◌, min, List, [], ◌∷◌, ◌++◌, Ok, Err, Result, map, length, take, sym, ap, ◌∙◌, arith, length-append, length-take, take_all}
 use Rattle.std.proofs.lemmas.List.{length-map, map-append, take-append-le}
 use Rattle.grammar.specs.Forms as form
-use Rattle.fixed_vec.specs.FixedVec.{items}
+use Rattle.fixed_vec.specs.FixedVec.{Extended, items}
 use Rattle.fixed_vec.specs.declared.FixedVec.{FixedVec}
 use Rattle.fixed_vec.specs.declared.Full.{Full}
 use Rattle.reading.specs.Holding.{parting, parts_in}
@@ -14,7 +14,7 @@ module _ (v w : FixedVec Part 64) (p : Part) (xs : List (form.Part ℕ)) (kept :
   few_kept = sym (length-map (items v) parting) ∙ ap length kept ∙ length-take 64 xs
 
   -- a part that is kept, and one that finds no place
-  pub push_kept : (r : Result (Unit {0}) Full) → (elim r as (λ _. Type 0) [ Ok _ ↦ items w ≡ items v ++ p ∷ [] | Err _ ↦ (w ≡ v) × (length (items v) ≡ 64) ]) → parts_in w ≡ take 64 (xs ++ parting p ∷ [])
+  pub push_kept : (r : Result (Unit {0}) Full) → Extended v w (p ∷ []) r → parts_in w ≡ take 64 (xs ++ parting p ∷ [])
   push_kept (Ok u) h =
       let fits : length (items w) ≤ 64 = omega (arith, length-take w.len w.places, w.few) in
       let more : length (items w) ≡ length (items v) + 1 = ap length h ∙ length-append (items v) (p ∷ []) in
