@@ -17,7 +17,7 @@ use Rattle.grammar.specs.Reading.Outcome.{stuck}
 use Rattle.names.specs.Lists.{names_of}
 use Rattle.reading.specs.Growing.{Holds, Added, Grown, parts_of}
 use Rattle.words.specs.Kinds.{part_of}
-use Rattle.reading.specs.Levels.{names_in, left, Off, Moved, Misses, Made, Makes, Taken, Expected, Next, Adds, Phrase, UnaryRead, AtomRead, AndRead, RuleRead, AtomDone, OperandDone, need_and, have_or}
+use Rattle.reading.specs.Levels.{names_in, left, Off, Moved, Misses, Made, Makes, Taken, Expected, Next, Adds, Phrase, UnaryRead, AtomRead, AndRead, RuleRead, AtomDone, need_and, have_or}
 use Rattle.words.specs.Wording.{wording}
 use Rattle.reading.specs.declared.faults.GrammarFault.{GrammarFault}
 use Rattle.reading.specs.declared.faults.GrammarFault.TheVariants as faults
@@ -226,25 +226,3 @@ unary_before r u w b n k x (moved, shown) (o, e, y) h z q = record {
   };
   goes = λ s. ap (reads (need s)) (shown ∙ ap (λ v. next n.at v (left w)) e) ∙ h.goes (after_before o s);
 }
-
--- so far operands joined by that binding's signs are read
-abbrev pub SoFar : Binding → Reader → Reader → Type 0
-SoFar binds.Implies r t = ⊥
-SoFar binds.Or r t = Phrase fresh have_or r t × Off binds.And (left t.words)
-SoFar binds.And r t = Phrase need_and have r t
-SoFar binds.Unary r t = ⊥
-SoFar binds.Atom r t = ⊥
-
-abbrev pub depth : Binding → ℕ
-depth binds.Implies = 0
-depth binds.Or = 4
-depth binds.And = 2
-depth binds.Unary = 0
-depth binds.Atom = 0
-
-pub joined_more : (b : Binding) (r t u : Reader) (w : Words) (c : Parts) (k : Kind) (x : Part ℕ) → x ≡ part_of k 0 → Added u.parts c x → SoFar b r t → Taken b t.words w (Ok (Some k)) → OperandDone b (record t { words = w }) u (Ok tt) → SoFar b r (record u { parts = c })
-joined_more binds.Implies r t u w c k x e a m h n = m
-joined_more binds.Or r t u w c k x e a m h n = (or_more r t u w c k x e a m.0 (took_bar t.words w k h) n, n.no_amp)
-joined_more binds.And r t u w c k x e a m h n = and_more r t u w c k x e a m (took_amp t.words w k h) n
-joined_more binds.Unary r t u w c k x e a m h n = m
-joined_more binds.Atom r t u w c k x e a m h n = m

@@ -167,30 +167,6 @@ abbrev pub OrDone : Reader → Reader → Result (Unit {0}) GrammarFault → Typ
 OrDone r t (Ok u) = OrRead r t
 OrDone r t (Err e) = (s : Stack a_rule) → reads (fresh s) (left r.words) ≡ faulted e
 
--- the bindings whose signs join operands to the left
-abbrev pub Joins : Binding → Type 0
-Joins binds.Implies = ⊥
-Joins binds.Or = Unit {0}
-Joins binds.And = Unit {0}
-Joins binds.Unary = ⊥
-Joins binds.Atom = ⊥
-
--- operands joined by signs of that binding; of the other bindings nothing is asked
-abbrev pub JoinedDone : Binding → Reader → Reader → Result (Unit {0}) GrammarFault → Type 0
-JoinedDone binds.Implies r t x = Unit {0}
-JoinedDone binds.Or r t x = OrDone r t x
-JoinedDone binds.And r t x = AndDone r t x
-JoinedDone binds.Unary r t x = Unit {0}
-JoinedDone binds.Atom r t x = Unit {0}
-
--- one such operand
-abbrev pub OperandDone : Binding → Reader → Reader → Result (Unit {0}) GrammarFault → Type 0
-OperandDone binds.Implies r t x = Unit {0}
-OperandDone binds.Or r t x = AndDone r t x
-OperandDone binds.And r t x = UnaryDone r t x
-OperandDone binds.Unary r t x = Unit {0}
-OperandDone binds.Atom r t x = Unit {0}
-
 abbrev pub RuleDone : Reader → Reader → Result (Unit {0}) GrammarFault → Type 0
 RuleDone r t (Ok u) = RuleRead r t
 RuleDone r t (Err e) = (s : Stack a_rule) → reads (fresh s) (left r.words) ≡ faulted e

@@ -1,6 +1,6 @@
 // The levels of the grammar. Each reads one phrase, and its contract says what comes of the text whatever stands around it.
 ghost use Rattle.std.specs.Prelude.{◌≡◌, Some as «some», MatchBool, ◌≢◌};
-ghost use Rattle.reading.specs.Levels.{AtomDone, Expected, JoinedDone, Joins, Made, Next, OperandDone, RuleDone, Taken, UnaryDone, UntilDone, strength};
+ghost use Rattle.reading.specs.Levels.{AndDone, AtomDone, Expected, Made, Next, OrDone, RuleDone, Taken, UnaryDone, UntilDone, strength};
 ghost use Rattle.words.specs.Wording.{wording};
 ghost use Rattle.words.specs.declared.kinds.Binding.TheVariants.{Unary as unaries};
 
@@ -73,7 +73,7 @@ impl Reader<'_> {
     pub fn read_rule(&mut self) -> Result<(), GrammarFault>
         ensures { RuleDone self.old self.new result }
     {
-        self.read_joined(Binding::Or)?;
+        self.read_or()?;
         if let Some(kind) = takes(&mut self.words, Binding::Implies)? {
             self.read_rule()?;
             self.parts.push(Part::of(kind));
@@ -81,30 +81,31 @@ impl Reader<'_> {
         Ok(())
     }
 
-    // Operands that are joined by signs of that binding, `&` or `|`, and grouped to the left.
+    // This level and the next stay two functions. One over the binding proves too, but is as long, chooses the level below
+    // by a switch, and rules out the other bindings by a `requires`. One that takes the level below as a closure would
+    // want a number beside it, for the measure of the cycle alone.
     #[cycle(levels)]
-    fn read_joined(&mut self, binding: Binding) -> Result<(), GrammarFault>
-        requires { Joins binding }
-        ensures { JoinedDone binding self.old self.new result }
+    fn read_or(&mut self) -> Result<(), GrammarFault>
+        ensures { OrDone self.old self.new result }
     {
-        self.read_operand(binding)?;
-        while let Some(kind) = takes(&mut self.words, binding)? {
-            self.read_operand(binding)?;
+        self.read_and()?;
+        while let Some(kind) = takes(&mut self.words, Binding::Or)? {
+            self.read_and()?;
             self.parts.push(Part::of(kind));
         }
         Ok(())
     }
 
-    // An operand of such a sign.
     #[cycle(levels)]
-    fn read_operand(&mut self, binding: Binding) -> Result<(), GrammarFault>
-        requires { Joins binding }
-        ensures { OperandDone binding self.old self.new result }
+    fn read_and(&mut self) -> Result<(), GrammarFault>
+        ensures { AndDone self.old self.new result }
     {
-        match binding {
-            Binding::Or => self.read_joined(Binding::And),
-            _ => self.read_unary(),
+        self.read_unary()?;
+        while let Some(kind) = takes(&mut self.words, Binding::And)? {
+            self.read_unary()?;
+            self.parts.push(Part::of(kind));
         }
+        Ok(())
     }
 
     #[cycle(levels)]

@@ -2,8 +2,12 @@ use Rattle.std.proofs.Common.{rules, ap, sym, ◌∙◌, ◌∷◌, []}
 use Rattle.grammar.specs.Forms.Form.{yes_form, no_form, leaf}
 use Rattle.grammar.specs.Machine.{needs_more}
 use Rattle.words.specs.Wording.{wording}
-use Rattle.reading.proofs.Phrases.{took_arrow, joined_more, rule_more, atom_leaf, atom_round, atom_until, unary_before}
+use Rattle.reading.proofs.Phrases.{took_amp, took_bar, took_arrow, and_more, or_more, rule_more, atom_leaf, atom_round, atom_until, unary_before}
 use Rattle.reading.proofs.levels.Reader.+levels.Goals as goal
+
+pub read_and-loop-kind-preserved : goal.read_and-loop-kind-preserved
+read_and-loop-kind-preserved t c =
+    and_more _ _ _ _ _ _ _ c.of.ensures c.push.ensures c.loop-kind.invariant (took_amp _ _ _ (rw c.in-Some.is at c.in_ok-kind.ensures)) c.in_ok-read_unary-2.ensures
 
 pub read_atom-returns-in-True : goal.read_atom-returns-in-True
 read_atom-returns-in-True t c =
@@ -22,13 +26,16 @@ read_atom-returns-in_ok-read_rule-in-Open t c =
     atom_round _ _ _ _ _ c.expect.result (ap wording c.in-Open.is) c.in_ok-read_rule-in-Open.ensures c.expect.ensures
 
 -- what the operand is, the search finds among the facts, and no step of the code is named for it
-pub read_joined-loop-kind-preserved : goal.read_joined-loop-kind-preserved
-read_joined-loop-kind-preserved t c =
-    joined_more c.args.binding _ _ _ _ _ _ _ c.of.ensures c.push.ensures c.loop-kind.invariant (rw c.in-Some.is at c.in_ok-kind.ensures) (search rules)
+pub read_or-loop-kind-preserved : goal.read_or-loop-kind-preserved
+read_or-loop-kind-preserved t c = record {
+  phrase =
+      or_more _ _ _ _ _ _ _ c.of.ensures c.push.ensures c.loop-kind.invariant.phrase (took_bar _ _ _ (rw c.in-Some.is at c.in_ok-kind.ensures)) (search rules);
+  no_amp = search rules;
+}
 
 pub read_rule-returns-in_ok-read_rule : goal.read_rule-returns-in_ok-read_rule
 read_rule-returns-in_ok-read_rule t c =
-    rule_more _ _ _ _ _ _ _ c.of.ensures c.push.ensures c.in_ok-read_joined.ensures.phrase (took_arrow _ _ _ (rw c.in-Some.is at c.in_ok-kind.ensures)) c.in_ok-read_rule.ensures
+    rule_more _ _ _ _ _ _ _ c.of.ensures c.push.ensures c.in_ok-read_or.ensures.phrase (took_arrow _ _ _ (rw c.in-Some.is at c.in_ok-kind.ensures)) c.in_ok-read_rule.ensures
 
 pub read_unary-returns : goal.read_unary-returns
 read_unary-returns t c = unary_before _ _ _ _ c.in_ok-seen.seen _ _ c.in_ok-seen.ensures c.in-Some.ensures c.in_ok-read_unary.ensures c.of.ensures c.push.ensures
