@@ -1,7 +1,8 @@
-use Rattle.rulecheck.proofs.Drawn.{ticket_drawn}
+use Rattle.std.proofs.Common.{sym, ap, subst}
+use Rattle.flow.specs.Tables.{table_meaning}
+use Rattle.rulecheck.specs.Examples.{Ticket}
+use Rattle.rulecheck.proofs.Drawn.{ticket}
 use Rattle.rulecheck.proofs.ticket.Goals as goal
 
-pub returns : goal.returns
-returns c =
-    let t = c.in-Ok.ensures.after in
-    record { labels = t.0; starts = t.1; moves = t.2; bounds = t.3; drawn = ticket_drawn _ _ _ _ t.0 t.1 t.2 t.3 }
+pub returns-clause-drawn : goal.returns-clause-drawn
+returns-clause-drawn c = subst Ticket (sym (ap table_meaning c.in-Ok.ensures.tables)) ticket
