@@ -22,7 +22,7 @@ use Rattle.grammar.proofs.Trees.{length-parts}
 use Rattle.reading.specs.Growing.{Holds, parts_of}
 use Rattle.reading.specs.Levels.{left, fell, faulted, Off, RuleRead}
 use Rattle.reading.specs.Refusing.{refused}
-use Rattle.reading.specs.Whole.{slip_halt, Stores, PartsRead}
+use Rattle.reading.specs.Whole.{slip_halt, PartsRead}
 use Rattle.words.specs.Wording.{slipping, Looked}
 use Rattle.words.specs.declared.faults.WordFault.{WordFault}
 use Rattle.words.specs.declared.faults.WordFault.TheVariants.{Strange, Long}
@@ -32,6 +32,9 @@ use Rattle.reading.specs.declared.faults.RuleFault.{RuleFault}
 use Rattle.reading.specs.declared.faults.RuleFault.TheVariants.{Grammar}
 use Rattle.words.specs.declared.kinds.Binding.TheVariants as binds
 use Rattle.reading.specs.declared.parts.Parts.{Parts}
+use Rattle.reading.specs.declared.part.Part.{Part}
+use Rattle.fixed_vec.specs.declared.FixedVec.{FixedVec}
+use Rattle.reading.specs.Holding.{first_parts}
 use Rattle.words.specs.declared.word.Seen.{Seen}
 use Rattle.words.specs.declared.words.Words.{Words}
 
@@ -110,15 +113,17 @@ module _ (names : List (List ℕ)) (text : List ℕ) where
           let long = length-parts (resolve names m.form) in
           read_tree n h ∙ ap (λ z. cond z (the_rule (resolve names m.form)) (fault 6 (length text))) (lt-leb _ 64 (omega arith))
 
-      pub read_all : (n : ℕ) → left t ≡ end n → Holds a [] → b.count ≤ 64 → (f : Form ℕ) × (read_of names text ≡ the_rule f) × Stores b f
+      pub read_all : (n : ℕ) → left t ≡ end n → Holds a [] → b.count ≤ 64 → (f : Form ℕ) × ((read_of names text ≡ the_rule f) × (first_parts b.parts b.count ≡ parts f))
       read_all n h k c =
           let f : Form ℕ = resolve names m.form in
           let held = holds_all k in
           let counted = held.counted in
           let long = length-parts (resolve names m.form) in (
             f,
-            read_tree n h ∙ ap (λ z. cond z (the_rule f) (fault 6 (length text))) (le-leb _ 64 (omega arith)),
-            record { full = held.full; counted = omega arith; listed = held.kept ∙ take_all 64 (parts f) (omega arith) },
+            (
+              read_tree n h ∙ ap (λ z. cond z (the_rule f) (fault 6 (length text))) (le-leb _ 64 (omega arith)),
+              held.kept ∙ take_all 64 (parts f) (omega arith),
+            ),
           )
 
 -- a reader at the beginning
@@ -126,7 +131,7 @@ pub from_first : (all text : List ℕ) (p : ℕ) → all ≡ text → p ≡ 0 �
 from_first all text p e f = λ i. from (e i) (f i)
 
 -- the exit of a `?`
-pub exits : (names : List (List ℕ)) (text : List ℕ) (r : Result Parts RuleFault) (e : RuleFault) → (y : RuleFault) × (r ≡ Err y) × (y ≡ e) → read_of names text ≡ refused e → PartsRead names text r
+pub exits : (names : List (List ℕ)) (text : List ℕ) (r : Result (FixedVec Part 64) RuleFault) (e : RuleFault) → (y : RuleFault) × (r ≡ Err y) × (y ≡ e) → read_of names text ≡ refused e → PartsRead names text r
 exits names text r e p h = subst (PartsRead names text) (sym (p.1 ∙ ap Err p.2)) h
 
 -- what a look showed at the end

@@ -4,9 +4,11 @@ ghost use Rattle.reading.specs.Whole.{PartsRead, Passed};
 
 use crate::faults::{GrammarFault, RuleFault};
 use crate::levels::read_rule;
+use crate::part::Part;
 use crate::parts::Parts;
+use fixed_vec::FixedVec;
 use names::Names;
-use words::{WordFault, Words};
+use words::{Kind, WordFault, Words};
 
 // The longest text in bytes, and the most parts of a rule.
 const LONGEST_TEXT: usize = 1024;
@@ -25,7 +27,7 @@ fn pass(text: &[u8]) -> Result<(), WordFault>
 }
 
 // The parts of the rule that the text stands for.
-pub fn read_parts(names: &Names, text: &[u8]) -> Result<Parts, RuleFault>
+pub fn read_parts(names: &Names, text: &[u8]) -> Result<FixedVec<Part, 64>, RuleFault>
     ensures { PartsRead (names_of names.now) text.now result }
 {
     if text.len() > LONGEST_TEXT {
@@ -39,9 +41,12 @@ pub fn read_parts(names: &Names, text: &[u8]) -> Result<Parts, RuleFault>
         Some(seen) => Err(RuleFault::Grammar(GrammarFault::Stray(seen.at))),
         None => {
             if parts.count > MOST_PARTS {
-                Err(RuleFault::Parts(text.len()))
-            } else {
-                Ok(parts)
+                return Err(RuleFault::Parts(text.len()));
+            }
+            let mut kept = FixedVec::new(Part::of(Kind::True));
+            match kept.extend_from_slice(&parts.parts[..parts.count]) {
+                Ok(()) => Ok(kept),
+                Err(_) => Err(RuleFault::Parts(text.len())),
             }
         }
     }

@@ -1,3 +1,6 @@
+use Rattle.std.proofs.Common.{ap, ◌∙◌, map, take, ◌++◌, length, arith, length-take-le, length-take}
+use Rattle.reading.specs.Holding.{parting}
+use Rattle.reading.specs.declared.part.Part.{Part}
 use Rattle.std.proofs.lemmas.Result.{err_from_is_err_and}
 use Rattle.grammar.specs.Machine.Stack.{bottom}
 use Rattle.reading.proofs.Phrases.{looked}
@@ -32,7 +35,13 @@ returns-then-parts-gt-MOST_PARTS c =
     read_many _ _ c.if-text-gt-LONGEST_TEXT.false c.in_ok-pass.ensures _ _ _ _ c.in_ok-read_rule.ensures (from_first _ _ _ c.new-words.ensures.text c.new-words.ensures.place) _
     (looked_end _ _ _ c.in-None.is c.in_ok-seen.ensures) c.none-parts.ensures c.if-parts-gt-MOST_PARTS.true
 
-pub returns-else-parts-gt-MOST_PARTS : goal.returns-else-parts-gt-MOST_PARTS
-returns-else-parts-gt-MOST_PARTS c =
-    read_all _ _ c.if-text-gt-LONGEST_TEXT.false c.in_ok-pass.ensures _ _ _ _ c.in_ok-read_rule.ensures (from_first _ _ _ c.new-words.ensures.text c.new-words.ensures.place) _
-    (looked_end _ _ _ c.in-None.is c.in_ok-seen.ensures) c.none-parts.ensures c.if-parts-gt-MOST_PARTS.false
+pub returns-in-Ok : goal.returns-in-Ok
+returns-in-Ok c =
+    let h = read_all _ _ c.if-text-gt-LONGEST_TEXT.false c.in_ok-pass.ensures _ _ _ _ c.in_ok-read_rule.ensures (from_first _ _ _ c.new-words.ensures.text c.new-words.ensures.place) _
+    (looked_end _ _ _ c.in-None.is c.in_ok-seen.ensures) c.none-parts.ensures c.if-parts-gt-MOST_PARTS.false in
+    (h.0, (h.1.0, ap (map parting) (c.in-Ok.ensures ∙ ap (λ l. l ++ take c.read_rule.new.parts.count c.read_rule.new.parts.parts) c.new-kept.ensures) ∙ h.1.1))
+
+pub returns-in-Err : goal.returns-in-Err
+returns-in-Err c =
+    let held = length-take-le c.read_rule.new.parts.count c.read_rule.new.parts.parts in
+    absurd (omega (arith, c.in-Err.ensures, ap (length {A = Part}) c.new-kept.ensures, length-take {A = Part}))
