@@ -1,6 +1,7 @@
 pub mod Rules
-pub mod Turns
 pub mod Answered
+pub mod Turns
+pub mod Standings
 pub mod Backs
 pub mod Below
 pub mod Toward
