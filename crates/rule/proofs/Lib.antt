@@ -2,7 +2,6 @@ pub mod Rules
 pub mod Answered
 pub mod Turns
 pub mod Standings
-pub mod Backs
 pub mod Below
 pub mod Toward
 pub mod Printings

@@ -1,5 +1,5 @@
 -- What the table says of a kind, as what its part is.
-use Rattle.std.proofs.Common.{◌≡◌, ℕ, ◌≤◌, cond, refl, ap, ◌∙◌, arith}
+use Rattle.std.proofs.Common.{◌≡◌, ℕ, cond, refl, ap, ◌∙◌}
 use Rattle.grammar.specs.Forms.{Part, arity}
 use Rattle.grammar.specs.Forms.Part.{always, never, known, on_one, on_two}
 use Rattle.grammar.specs.Signs.{Sign, flip, under, left}
@@ -42,13 +42,6 @@ arity-unlabelled (on_two o) = refl
 
 pub kind_arity : (k : Kind) (l : ℕ) → arity_of k ≡ arity (part_of k l)
 kind_arity k l = ap arity (kind_unlabelled k l) ∙ arity-unlabelled (part_of k l)
-
-pub arity_few : (x : Part ℕ) → arity x ≤ 2
-arity_few always = omega arith
-arity_few never = omega arith
-arity_few (known l) = omega arith
-arity_few (on_one o) = omega arith
-arity_few (on_two o) = omega arith
 
 -- the sign of the first operand of a part whose sign is p
 abbrev pub first_sign : Part ℕ → Sign → Sign

@@ -1,5 +1,5 @@
 -- Writing a rule into a line, part by part.
-use Rattle.std.specs.Prelude.{◌≡◌, ℕ, ◌+◌, ◌<◌, Bool, List, [], ◌++◌, length, Ok, Err, Result, slice_index_or}
+use Rattle.std.specs.Prelude.{◌≡◌, ℕ, ◌+◌, ◌<◌, Bool, List, [], ◌++◌, length, OnOk, OnErr, Result, slice_index_or}
 use Rattle.grammar.specs.Forms.{Form, Part}
 use Rattle.grammar.specs.Forms.Part.{always, never, known, on_one, on_two}
 use Rattle.grammar.specs.Signs.{Sign}
@@ -26,6 +26,6 @@ abbrev pub part_text : List (List ℕ) → (ℕ → Bool) → {f : Form ℕ} {i 
 part_text names marks {p = p} s = written names (struck_from marks s.first p s.form)
 
 -- the text was added to a line, or a line of 1,024 bytes is too short for it
-abbrev pub Adds : List ℕ → List ℕ → List ℕ → Result (Unit {0}) Full → Type 0
-Adds text old new (Ok u) = new ≡ old ++ text
-Adds text old new (Err e) = 1024 < length old + length text
+pub record Adds (text old new : List ℕ) (r : Result (Unit {0}) Full) : Type 0 where
+  pub ok : OnOk r (new ≡ old ++ text)
+  pub full : OnErr r (1024 < length old + length text)

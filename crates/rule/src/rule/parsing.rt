@@ -12,7 +12,7 @@ use names::Names;
 use reading::{RuleFault, read_parts};
 
 impl Rule {
-    // The rule that the text stands for with these names, entry i for label i; a name that the list lacks is `false`.
+    /// The rule that the text stands for with these names, entry i for label i; a name that the list lacks is `false`.
     pub fn read(names: &[&[u8]], text: &[u8]) -> Result<Rule, RuleFault>
         ensures grammar { Answering (spellings names.now) text.now (answered result) }
         ensures only { (a : Answer) → Answering (spellings names.now) text.now a → answered result ≡ a }

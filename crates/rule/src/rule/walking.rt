@@ -21,7 +21,7 @@ use reading::Part;
 use words::Kind;
 
 impl Rule {
-    // The rule `true`, without names.
+    /// The rule `true`, without names.
     pub fn fresh() -> Rule
         ensures form { form_in result ≡ yes_form }
         ensures names { names_in result ≡ [] }
@@ -35,28 +35,29 @@ impl Rule {
         }
     }
 
-    // How many parts the rule has.
+    /// How many parts the rule has.
     pub fn len(&self) -> usize
         ensures { result ≡ size (form_in self.now) }
     {
         self.parts.len()
     }
 
-    // The name of a label, where it has one.
+    /// The name of a label, where it has one.
     pub fn name(&self, label: u8) -> Option<&[u8]>
         ensures { Got (names_in self.now) label result }
     {
         self.names.get(label)
     }
 
-    // The part with that number, where there is one.
+    /// The part with that number, where there is one.
     pub fn part(&self, number: usize) -> Option<Part>
         ensures { option_map parting result ≡ part_at (form_in self.now) number }
     {
         self.parts.as_slice().get(number).copied()
     }
 
-    // A part that the rule has.
+    // A part that the rule has. The rule and a number below its length stay two values here and below: a struct of both
+    // would be made anew for each operand.
     pub(super) fn at(&self, number: usize) -> Part
         requires { number < size (form_in self.now) }
         ensures { slice_index_or (parts (form_in self.now)) number always ≡ parting result }
@@ -64,19 +65,19 @@ impl Rule {
         self.parts.as_slice()[number]
     }
 
-    // The number of the first part inside the part `root`. Each part on the way back is owed by its operator and owes its
-    // operands.
+    // The number of the first part inside the part `root`: that of its left operand, which ends before the right one's.
     fn first(&self, root: usize) -> usize
         requires { root < size (form_in self.now) }
         ensures { (p : signs.Sign) (s : Stands (form_in self.now) root p) → result ≡ s.first }
     {
-        let mut at = root + 1;
-        let mut owed = 1;
-        while owed > 0 {
-            at -= 1;
-            owed = owed - 1 + self.at(at).kind.operands() as usize;
+        match self.at(root).kind.operands() {
+            0 => root,
+            1 => self.first(root - 1),
+            _ => {
+                let right = self.first(root - 1);
+                self.first(right - 1)
+            }
         }
-        at
     }
 
     // The operands of a part that the rule has.
@@ -95,23 +96,23 @@ impl Rule {
         }
     }
 
-    // The operands of the part with that number, where there is one.
+    /// The operands of the part with that number, where there is one.
     pub fn operands(&self, number: usize) -> Option<Operands>
         ensures { option_map operanding result ≡ operands_at (form_in self.now) number }
     {
         (number < self.len()).then(|| self.operands_of(number))
     }
 
-    // The operand of the part `at`, whose sign is `sign`, inside which the part `number` stands, with that operand's sign.
-    fn toward(&self, at: usize, sign: Sign, number: usize) -> (usize, Sign)
-        requires around { Around (form_in self.now) number at (signing sign) }
-        requires below { number < at }
-        ensures nearer { result.0 < at }
+    // The operand of the part `from`, whose sign is `sign`, inside which the part `number` stands, with that operand's sign.
+    fn toward(&self, from: usize, sign: Sign, number: usize) -> (usize, Sign)
+        requires around { Around (form_in self.now) number from (signing sign) }
+        requires below { number < from }
+        ensures nearer { result.0 < from }
         ensures around { Around (form_in self.now) number result.0 (signing result.1) }
     {
-        let flips = self.at(at).kind.flips();
+        let flips = self.at(from).kind.flips();
         let turned = sign.flipped(flips);
-        match self.operands_of(at) {
+        match self.operands_of(from) {
             Operands::One(operand) => (operand, turned),
             Operands::Two(left, right) if left < number => (right, sign),
             Operands::Two(left, _) => (left, turned),
@@ -120,7 +121,7 @@ impl Rule {
         }
     }
 
-    // The sign of the part with that number, where there is one.
+    /// The sign of the part with that number, where there is one.
     pub fn sign(&self, number: usize) -> Option<Sign>
         ensures { option_map signing result ≡ sign_at (form_in self.now) number }
     {

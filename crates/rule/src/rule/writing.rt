@@ -89,8 +89,8 @@ impl Rule {
         line
     }
 
-    // Writes the rule with the marked parts struck, each as its constant alone, and answers the length.
-    // A buffer that is too short stays as it was, and the length is 0. The text reads back as the struck rule.
+    /// Writes the rule with the marked parts struck, each as its constant alone, and answers the length.
+    /// A buffer that is too short stays as it was, and the length is 0. The text reads back as the struck rule.
     pub fn write_struck(&self, marks: &[u8], out: &mut [u8]) -> usize
         ensures length { result ≡ length_in (struck_text marks.now self.now) out.old }
         ensures bytes { out.new ≡ put_into (struck_text marks.now self.now) out.old }
@@ -107,8 +107,8 @@ impl Rule {
         len
     }
 
-    // Writes the rule and answers the length. A buffer that is too short stays as it was, and the length is 0.
-    // The text reads back as the rule.
+    /// Writes the rule and answers the length. A buffer that is too short stays as it was, and the length is 0.
+    /// The text reads back as the rule.
     pub fn write(&self, out: &mut [u8]) -> usize
         ensures length { result ≡ length_in (text_of self.now) out.old }
         ensures bytes { out.new ≡ put_into (text_of self.now) out.old }
