@@ -1,7 +1,7 @@
 -- The steps of the writer.
 use Rattle.std.proofs.Common.{◌≡◌, ℕ, ◌+◌, ◌<◌, ◌≤◌, Bool, true, false, cond, List, [], ◌++◌, length, get_or, Ok, Err, Result, sym, refl, ap, ◌∙◌, subst, append_assoc, arith, length-append}
 use Rattle.std.specs.Result.{IsOk}
-use Rattle.fixed_vec.specs.FixedVec.{items}
+use Rattle.fixed_vec.specs.FixedVec.{Extended, items}
 use Rattle.fixed_vec.specs.declared.FixedVec.{FixedVec}
 use Rattle.fixed_vec.specs.declared.Full.{Full}
 use Rattle.grammar.specs.Forms.{Form, parts, size, arity, root}
@@ -29,10 +29,7 @@ use Rattle.rule.proofs.Rules.{rule_names, rule_known, rule_few}
 use Rattle.rule.proofs.Turns.{unlabelled, kind_unlabelled}
 
 -- bytes that were added to a line, or refused
-abbrev pub Extends : FixedVec ℕ 1024 → FixedVec ℕ 1024 → List ℕ → Result (Unit {0}) Full → Type 0
-Extends v w bytes r = elim r [ Ok _ ↦ items w ≡ items v ++ bytes | Err _ ↦ (w ≡ v) × (1024 < length (items v) + length bytes) ]
-
-pub extended : (v w : FixedVec ℕ 1024) {bytes text : List ℕ} (r : Result (Unit {0}) Full) → Extends v w bytes r → text ≡ bytes → Adds text (items v) (items w) r
+pub extended : (v w : FixedVec ℕ 1024) {bytes text : List ℕ} (r : Result (Unit {0}) Full) → Extended v w bytes r → text ≡ bytes → Adds text (items v) (items w) r
 extended v w (Ok u) h e = record { ok = h ∙ ap (λ b. items v ++ b) (sym e); full = tt }
 extended v w (Err x) h e = record { ok = tt; full = omega (arith, h.1, ap length e) }
 
