@@ -89,6 +89,13 @@ impl Rule {
         line
     }
 
+    /// The text of the rule.
+    pub fn text(&self) -> FixedVec<u8, LINE>
+        ensures { items result ≡ text_of self.now }
+    {
+        self.line(&[])
+    }
+
     /// Writes the rule with the marked parts struck, each as its constant alone, and answers the length.
     /// A buffer that is too short stays as it was, and the length is 0. The text reads back as the struck rule.
     pub fn write_struck(&self, marks: &[u8], out: &mut [u8]) -> usize
