@@ -1,10 +1,12 @@
 // Why a rule is not read. Each fault has a number and a place.
-ghost use Rattle.std.specs.Prelude.{◌≡◌};
-ghost use Rattle.reading.specs.Refusing.{number_of, place_of};
+ghost use Rattle.std.specs.Prelude.{◌≡◌, Some};
+ghost use Rattle.reading.specs.Refusing.{fault_text, number_of, place_of};
 ghost use Rattle.reading.specs.declared.faults.GrammarFault.TheVariants.{Word as of_word};
 ghost use Rattle.reading.specs.declared.faults.RuleFault.TheVariants.{Grammar as of_grammar, Names as of_names};
 
 use names::NamesFault;
+use std::error::Error;
+use std::fmt;
 use words::WordFault;
 
 // Why a text is none of the grammar: a fault of its words, or the place with which no text of the grammar goes on.
@@ -84,3 +86,16 @@ impl RuleFault {
         }
     }
 }
+
+// A fault shows as its number and its place: `3 at 5`.
+impl fmt::Display for RuleFault {
+    ghost output = { λ fault. Some (fault_text fault) };
+
+    fn fmt<W: fmt::Write>(&self, f: &mut fmt::Formatter<W>) -> fmt::Result {
+        let number = self.number();
+        let place = self.place();
+        write!(f, "{number} at {place}")
+    }
+}
+
+impl Error for RuleFault {}
