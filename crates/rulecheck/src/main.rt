@@ -20,11 +20,8 @@ fn ticket() -> TableFlow<'static>
     ensures tables { result.tables ≡ ticket_tables }
     ensures drawn { Ticket (table_meaning result.tables) }
 {
-    match TableFlow::new(&[0, 1, 2], &[1, 0, 0], &[1, 0, 2, 2], &[0, 1, 3, 4]) {
-        Ok(flow) => flow,
-        // These tables are proved to be accepted.
-        Err(_) => unreachable(),
-    }
+    // These tables are proved to be accepted.
+    TableFlow::new(&[0, 1, 2], &[1, 0, 0], &[1, 0, 2, 2], &[0, 1, 3, 4]).unwrap()
 }
 
 // A row of two seats.
@@ -32,10 +29,7 @@ fn two_seats() -> SeatRow
     ensures seats { result.seats ≡ 2 }
     ensures drawn { TwoSeats (row_meaning result.seats) }
 {
-    match SeatRow::new(2) {
-        Ok(row) => row,
-        Err(_) => unreachable(),
-    }
+    SeatRow::new(2).unwrap()
 }
 
 // Both charts, and the line that counts them. An error stands for want of memory.
