@@ -2,6 +2,7 @@
 use Rattle.std.specs.Prelude.{◌≡◌, ℕ, ◌+◌, ◌-◌, ◌/◌, ◌%◌, ◌^◌, ◌<◌, ◌≤◌, Bool, true, false, cond, List, [], length, is_some, Some, None, Option, ◌==◌, nat_lt, slice_index}
 use Rattle.std.proofs.Common.{ap, ◌∙◌, ⊎_elim, arith}
 use Rattle.std.proofs.lemmas.Bool.{cases_lt, lt-ltb, le-ltb, ltb-true, and_parts, and_from}
+use Rattle.std.proofs.lemmas.List.{get_or_past}
 use Rattle.std.proofs.lemmas.List.Edits.{length-between, get_or-between}
 use Rattle.flow.specs.Meaning.{Limits}
 use Rattle.flow.specs.Lowest.{lowest, Lowest, lowest_is}
@@ -17,9 +18,12 @@ module _ (t : Tables) (stepped : Stepped t) where
   pub degree_is : (s : ℕ) → s < length t.labels → length ((table_meaning t).nexts s) ≡ slice_index t.bounds (s + 1) - slice_index t.bounds s
   degree_is s h = ap length (nexts_in s h) ∙ length-between t.moves (slice_index t.bounds s) (slice_index t.bounds (s + 1)) (stepped s h).2
 
-  next_is : (s k : ℕ) → s < length t.labels → k < slice_index t.bounds (s + 1) - slice_index t.bounds s → slice_index ((table_meaning t).nexts s) k ≡ slice_index t.moves (slice_index t.bounds s + k)
+  pub next_is : (s k : ℕ) → s < length t.labels → k < slice_index t.bounds (s + 1) - slice_index t.bounds s → slice_index ((table_meaning t).nexts s) k ≡ slice_index t.moves (slice_index t.bounds s + k)
   next_is s k h b =
       ap (λ (xs : List ℕ). slice_index xs k) (nexts_in s h) ∙ get_or-between t.moves (slice_index t.bounds s) (slice_index t.bounds (s + 1)) k 0 (omega arith)
+
+  pub next_past : (s k : ℕ) → s < length t.labels → slice_index t.bounds (s + 1) - slice_index t.bounds s ≤ k → slice_index ((table_meaning t).nexts s) k ≡ 0
+  next_past s k h b = get_or_past ((table_meaning t).nexts s) k 0 (omega (arith, degree_is s h))
 
 -- the marked entry that the lowest one is
 found : (f : ℕ → Bool) (n : ℕ) (o : Option ℕ) → Lowest f n o → is_some o ≡ true → (s : ℕ) × (s < n) × (f s ≡ true)

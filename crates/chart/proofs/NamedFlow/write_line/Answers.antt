@@ -14,6 +14,6 @@ returns g c =
     let arrow = c.in_ok-write_str.ensures.writes labels.plain (refl {a = true}) in
     let nexts = c.in_ok-write_nexts.ensures arrow.plain (refl {a = true}) in
     let end = c.writeln.ensures.writes nexts.plain ok in
-    line_written (decimal s) (start_word (m.start s)) (label_words m names s 0 32) (codes " ->") (next_words (m.nexts s)) (10 ∷ [])
+    line_written {o₁ = c.write.new.self} {o₅ = c.writeln.new.self} (decimal s) (start_word (m.start s)) (label_words m names s 0 32) (codes " ->") (next_words (m.nexts s)) (10 ∷ [])
     (c.start_mark-mark.ensures ∙ ap start_word c.is_start.ensures)
     number labels arrow nexts end
