@@ -10,6 +10,8 @@ use std::alloc::AllocError;
 pub struct Full;
 
 /// A list of at most `N` items, kept in the value itself.
+///
+/// It derives no comparison, hash or `Debug`: those would read the places that are not in use. `as_slice` has them.
 #[derive(Copy)]
 pub struct FixedVec<T, const N: usize> {
     places: [T; N],

@@ -9,4 +9,5 @@ mod whole;
 
 pub use faults::{GrammarFault, RuleFault};
 pub use part::Part;
+pub use parts::Parts;
 pub use whole::read_parts;
