@@ -1,6 +1,11 @@
 -- The chart of a flow: a line for each state, in the order of their numbers.
-use Rattle.std.specs.Prelude.{ℕ, zero, suc, ◌+◌, Bool, cond, List, [], ◌∷◌, ◌++◌, length, codes, decimal, nat_lt, slice_index_or}
+use Rattle.std.specs.Prelude.{ℕ, zero, suc, ◌+◌, Bool, cond, List, [], ◌∷◌, ◌++◌, map, length, codes, decimal, nat_lt, slice_index_or}
+use Rattle.std.specs.Borrow.{Bor}
 use Rattle.flow.specs.Meaning.{Meaning}
+
+-- the names, as their texts
+abbrev pub texts : List (Bor (List ℕ)) → List (List ℕ)
+texts names = map (λ x. x.now) names
 
 -- what marks a start
 abbrev pub start_word : Bool → List ℕ
@@ -10,10 +15,14 @@ start_word start = cond start (codes " start") []
 abbrev pub name_of : List (List ℕ) → ℕ → List ℕ
 name_of names l = cond (nat_lt l (length names)) (slice_index_or names l []) (decimal l)
 
--- a space and a name for each of the k labels from l on that s carries
+-- a space and the name of label l where s carries it
+abbrev pub label_word : Meaning → List (List ℕ) → ℕ → ℕ → List ℕ
+label_word m names s l = cond (m.label l s) (codes " " ++ name_of names l) []
+
+-- the same for each of the k labels from l on
 abbrev pub label_words : Meaning → List (List ℕ) → ℕ → ℕ → ℕ → List ℕ
 label_words m names s l zero = []
-label_words m names s l (suc k) = cond (m.label l s) (codes " " ++ name_of names l) [] ++ label_words m names s (l + 1) k
+label_words m names s l (suc k) = label_word m names s l ++ label_words m names s (l + 1) k
 
 -- a space and a number for each next state
 abbrev pub next_words : List ℕ → List ℕ

@@ -35,11 +35,12 @@ both_of a b =
       moves = capped a.moves b.moves;
     }
 
--- the line of the counts of some flows
-abbrev pub count_line : Tally → List ℕ
-count_line t =
+-- the counts of some flows in words, and the line of them
+abbrev pub count_words : Tally → List ℕ
+count_words t =
     decimal t.flows
     ++ (codes " flows, "
-    ++ (decimal t.states
-    ++ (codes " states, "
-    ++ (decimal t.starts ++ (codes " starts, " ++ (decimal t.moves ++ (codes " moves" ++ (10 ∷ []))))))))
+    ++ (decimal t.states ++ (codes " states, " ++ (decimal t.starts ++ (codes " starts, " ++ (decimal t.moves ++ codes " moves"))))))
+
+abbrev pub count_line : Tally → List ℕ
+count_line t = count_words t ++ (10 ∷ [])

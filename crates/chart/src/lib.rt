@@ -1,8 +1,9 @@
 //! The chart of any flow, as text: a line for each state, and a line of counts.
 #![tactic(auto)]
 
-ghost use Rattle.std.specs.Prelude.{◌≡◌, ◌++◌, map, IfOk, string_bytes, codes, OnOk};
-ghost use Rattle.chart.specs.Chart.{start_word, name_of, label_words, next_words, state_line, chart_of};
+ghost use Rattle.std.specs.Prelude.{◌≡◌, map, IfOk, Some, string_bytes};
+ghost use Rattle.std.specs.Fmt.{WritesOnOk};
+ghost use Rattle.chart.specs.Chart.{texts, start_word, label_word, label_words, next_words, state_line, chart_of};
 
 mod counts;
 mod sums;
@@ -10,69 +11,79 @@ mod sums;
 pub use counts::{Tally, count_line};
 use flow::Flow;
 use std::alloc::{AllocError, Global};
+use std::fmt;
 pub use sums::tally;
 
-// A space and the number of each next state.
-fn put_nexts<F: Flow>(out: &mut String, flow: &F, s: u16) -> Result<(), AllocError>
-    ensures { OnOk result (string_bytes out.new ≡ string_bytes out.old ++ next_words ((F.Flow.meaning flow.now).nexts s)) }
-{
-    for k in 0..flow.degree(s) {
-        let t = flow.next(s, k);
-        write!(out, " {t}")?;
-    }
-    Ok(())
+// A flow and the names of its labels: entry `l` names label `l`. It shows as its chart.
+#[derive(Drop)]
+struct NamedFlow<'a, F> {
+    flow: &'a F,
+    names: &'a [&'a str],
 }
 
-// A space and the name of the label `l`, or its number where it has no name.
-fn put_label(out: &mut String, names: &[&str], l: u8) -> Result<(), AllocError>
-    ensures { OnOk result (string_bytes out.new ≡ string_bytes out.old ++ (codes " " ++ name_of (map (λ x. x.now) names.now) l)) }
-{
-    if (l as usize) < names.len() {
-        let name = names[l as usize];
-        write!(out, " {name}")
-    } else {
-        write!(out, " {l}")
-    }
-}
-
-// A space and the name of each label that `s` carries.
-fn put_labels<F: Flow>(out: &mut String, flow: &F, names: &[&str], s: u16) -> Result<(), AllocError>
-    ensures { OnOk result (string_bytes out.new ≡ string_bytes out.old ++ label_words (F.Flow.meaning flow.now) (map (λ x. x.now) names.now) s 0 32) }
-{
-    for l in 0..32 {
-        if flow.carries(s, l) {
-            put_label(out, names, l)?;
+impl<F: Flow> NamedFlow<'_, F> {
+    // A space and the name of the label `l`, or its number where it has no name; nothing where `s` does not carry it.
+    fn write_label<W: fmt::Write>(&self, f: &mut fmt::Formatter<W>, s: u16, l: u8) -> fmt::Result
+        ensures { WritesOnOk W.write_str_gives f.old result (label_word (F.Flow.meaning self.now.flow.now) (texts self.now.names.now) s l) f.new }
+    {
+        if !self.flow.carries(s, l) {
+            return Ok(());
+        }
+        match self.names.get(l as usize) {
+            Some(name) => write!(f, " {name}"),
+            None => write!(f, " {l}"),
         }
     }
-    Ok(())
+
+    // The labels that `s` carries.
+    fn write_labels<W: fmt::Write>(&self, f: &mut fmt::Formatter<W>, s: u16) -> fmt::Result
+        ensures { WritesOnOk W.write_str_gives f.old result (label_words (F.Flow.meaning self.now.flow.now) (texts self.now.names.now) s 0 32) f.new }
+    {
+        for l in 0..32 {
+            self.write_label(f, s, l)?;
+        }
+        Ok(())
+    }
+
+    // A space and the number of each next state.
+    fn write_nexts<W: fmt::Write>(&self, f: &mut fmt::Formatter<W>, s: u16) -> fmt::Result
+        ensures { WritesOnOk W.write_str_gives f.old result (next_words ((F.Flow.meaning self.now.flow.now).nexts s)) f.new }
+    {
+        for k in 0..self.flow.degree(s) {
+            let t = self.flow.next(s, k);
+            write!(f, " {t}")?;
+        }
+        Ok(())
+    }
+
+    // The line of the state `s`.
+    fn write_line<W: fmt::Write>(&self, f: &mut fmt::Formatter<W>, s: u16) -> fmt::Result
+        ensures { WritesOnOk W.write_str_gives f.old result (state_line (F.Flow.meaning self.now.flow.now) (texts self.now.names.now) s) f.new }
+    {
+        let mark = start_mark(self.flow.is_start(s));
+        write!(f, "{s}{mark}")?;
+        self.write_labels(f, s)?;
+        f.write_str(" ->")?;
+        self.write_nexts(f, s)?;
+        writeln!(f)
+    }
+}
+
+impl<F: Flow> fmt::Display for NamedFlow<'_, F> {
+    ghost output = { λ c. Some (chart_of (F.Flow.meaning c.flow.now) (texts c.names.now)) };
+
+    fn fmt<W: fmt::Write>(&self, f: &mut fmt::Formatter<W>) -> fmt::Result {
+        for s in 0..self.flow.count() {
+            self.write_line(f, s)?;
+        }
+        Ok(())
+    }
 }
 
 fn start_mark(start: bool) -> &'static str
     ensures { result.now ≡ start_word start }
 {
     if start { " start" } else { "" }
-}
-
-// The line of the state `s`.
-fn put_line<F: Flow>(out: &mut String, flow: &F, names: &[&str], s: u16) -> Result<(), AllocError>
-    ensures { OnOk result (string_bytes out.new ≡ string_bytes out.old ++ state_line (F.Flow.meaning flow.now) (map (λ x. x.now) names.now) s) }
-{
-    let mark = start_mark(flow.is_start(s));
-    write!(out, "{s}{mark}")?;
-    put_labels(out, flow, names, s)?;
-    write!(out, " ->")?;
-    put_nexts(out, flow, s)?;
-    writeln!(out)
-}
-
-// The lines of all states.
-fn put_lines<F: Flow>(out: &mut String, flow: &F, names: &[&str]) -> Result<(), AllocError>
-    ensures { OnOk result (string_bytes out.new ≡ string_bytes out.old ++ chart_of (F.Flow.meaning flow.now) (map (λ x. x.now) names.now)) }
-{
-    for s in 0..flow.count() {
-        put_line(out, flow, names, s)?;
-    }
-    Ok(())
 }
 
 /// The chart of a flow: a line for each state, as `1 start held -> 0 2`.
@@ -82,7 +93,5 @@ fn put_lines<F: Flow>(out: &mut String, flow: &F, names: &[&str]) -> Result<(), 
 pub fn chart<F: Flow>(heap: Global, flow: &F, names: &[&str]) -> Result<String, AllocError>
     ensures { IfOk result (λ t. string_bytes t ≡ chart_of (F.Flow.meaning flow.now) (map (λ x. x.now) names.now)) }
 {
-    let mut out = String::new(heap);
-    put_lines(&mut out, flow, names)?;
-    Ok(out)
+    NamedFlow { flow, names }.to_string(heap)
 }

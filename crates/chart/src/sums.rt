@@ -8,23 +8,13 @@ use flow::Flow;
 fn starts<F: Flow>(flow: &F) -> u32
     ensures { result ≡ sum_from (start_at (F.Flow.meaning flow.now)) 0 (F.Flow.meaning flow.now).count }
 {
-    let mut sum = 0;
-    for s in 0..flow.count() {
-        if flow.is_start(s) {
-            sum += 1;
-        }
-    }
-    sum
+    (0..flow.count()).filter(|&s| flow.is_start(s)).count() as u32
 }
 
 fn moves<F: Flow>(flow: &F) -> u32
     ensures { result ≡ sum_from (moves_at (F.Flow.meaning flow.now)) 0 (F.Flow.meaning flow.now).count }
 {
-    let mut sum = 0;
-    for s in 0..flow.count() {
-        sum += flow.degree(s) as u32;
-    }
-    sum
+    (0..flow.count()).map(|s| u32::from(flow.degree(s))).sum()
 }
 
 /// The counts of one flow.
@@ -33,7 +23,7 @@ pub fn tally<F: Flow>(flow: &F) -> Tally
 {
     Tally {
         flows: 1,
-        states: flow.count() as u32,
+        states: u32::from(flow.count()),
         starts: starts(flow),
         moves: moves(flow),
     }

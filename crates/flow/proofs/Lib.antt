@@ -1,3 +1,4 @@
 pub mod Lowests
 pub mod Accepted
 pub mod SeatWalk
+pub mod SeatChains

@@ -1,9 +1,9 @@
 -- What filling a table flow answers: the first of the faults, by rising number, or acceptance.
-use Rattle.std.specs.Prelude.{ℕ, ◌+◌, Bool, cond, not, ◌&&◌, List, length, Some, None, Ok, Err, Option, Result, ◌==◌, nat_le, slice_index}
+use Rattle.std.specs.Prelude.{ℕ, ◌+◌, Bool, cond, not, ◌&&◌, length, Some, None, Ok, Err, Option, Result, ◌==◌, nat_le, slice_index}
 use Rattle.flow.specs.declared.faults.FillFault.{FillFault}
 use Rattle.flow.specs.declared.faults.FillFault.TheVariants.{Sizes, Bounds, NoMove, Target, NoStart}
 use Rattle.flow.specs.Lowest.{lowest}
-use Rattle.flow.specs.Tables.{some_marked}
+use Rattle.flow.specs.Tables.{Tables, some_marked}
 
 -- accepted, or refused with a fault
 abbrev pub Answer : Type 0
@@ -24,48 +24,46 @@ nowhere fault None = Ok tt
 nowhere fault (Some p) = Err (fault p)
 
 -- 11: a label word for each of 1 to 1,024 states, a start byte for each, and one bound more
-abbrev pub sizes : List ℕ → List ℕ → List ℕ → Answer
-sizes labels starts bounds =
+abbrev pub sizes : Tables → Answer
+sizes t =
     holds
-    (nat_le 1 (length labels)
-    && (nat_le (length labels) 1024
-    && (length starts == length labels && length bounds == length labels + 1)))
+    (nat_le 1 (length t.labels)
+    && (nat_le (length t.labels) 1024
+    && (length t.starts == length t.labels && length t.bounds == length t.labels + 1)))
     Sizes
 
 -- the bounds at s fall, or lie over 64 apart
-abbrev pub bad_step : List ℕ → ℕ → Bool
-bad_step bounds s =
-    not (nat_le (slice_index bounds s) (slice_index bounds (s + 1)) && nat_le (slice_index bounds (s + 1)) (slice_index bounds s + 64))
+abbrev pub bad_step : Tables → ℕ → Bool
+bad_step t s =
+    not (nat_le (slice_index t.bounds s) (slice_index t.bounds (s + 1)) && nat_le (slice_index t.bounds (s + 1)) (slice_index t.bounds s + 64))
 
 -- 12: from 0; then neither falling nor over 64 apart; then ending at the count of moves
-abbrev pub bounded : ℕ → List ℕ → List ℕ → Answer
-bounded n moves bounds =
-    then (holds (slice_index bounds 0 == 0) (Bounds 0))
-    (then (nowhere Bounds (lowest (bad_step bounds) n)) (holds (slice_index bounds n == length moves) (Bounds n)))
+abbrev pub bounded : Tables → Answer
+bounded t =
+    let n = length t.labels in
+    then (holds (slice_index t.bounds 0 == 0) (Bounds 0))
+    (then (nowhere Bounds (lowest (bad_step t) n)) (holds (slice_index t.bounds n == length t.moves) (Bounds n)))
 
 -- no move lies between the bounds of s
-abbrev pub still : List ℕ → ℕ → Bool
-still bounds s = slice_index bounds s == slice_index bounds (s + 1)
+abbrev pub still : Tables → ℕ → Bool
+still t s = slice_index t.bounds s == slice_index t.bounds (s + 1)
 
 -- 13: no state without a move
-abbrev pub moving : ℕ → List ℕ → Answer
-moving n bounds = nowhere NoMove (lowest (still bounds) n)
+abbrev pub moving : Tables → Answer
+moving t = nowhere NoMove (lowest (still t) (length t.labels))
 
 -- move i leads to a number that is no state
-abbrev pub astray : ℕ → List ℕ → ℕ → Bool
-astray n moves i = nat_le n (slice_index moves i)
+abbrev pub astray : Tables → ℕ → Bool
+astray t i = nat_le (length t.labels) (slice_index t.moves i)
 
 -- 14: no move leads astray
-abbrev pub aimed : ℕ → List ℕ → Answer
-aimed n moves = nowhere Target (lowest (astray n moves) (length moves))
+abbrev pub aimed : Tables → Answer
+aimed t = nowhere Target (lowest (astray t) (length t.moves))
 
 -- 15: some start
-abbrev pub begun : List ℕ → Answer
-begun starts = holds (some_marked starts) NoStart
+abbrev pub begun : Tables → Answer
+begun t = holds (some_marked t) NoStart
 
 -- the checks in their order
-abbrev pub fill_answer : List ℕ → List ℕ → List ℕ → List ℕ → Answer
-fill_answer labels starts moves bounds =
-    let n = length labels in
-    then (sizes labels starts bounds)
-    (then (bounded n moves bounds) (then (moving n bounds) (then (aimed n moves) (begun starts))))
+abbrev pub fill_answer : Tables → Answer
+fill_answer t = then (sizes t) (then (bounded t) (then (moving t) (then (aimed t) (begun t))))

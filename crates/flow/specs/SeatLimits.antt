@@ -19,7 +19,7 @@ digit_small Sold = lit≤ tt
 pub power_some : (k : ℕ) → 1 ≤ 3 ^ k
 power_some k = one-le-pow k 3 (lit≤ tt)
 
-power_few : (k : ℕ) → k ≤ 6 → 3 ^ k ≤ 1024
+pub power_few : (k : ℕ) → k ≤ 6 → 3 ^ k ≤ 1024
 power_few k h = let p : 3 ^ k ≤ 729 = pow-le-pow_right (lit≤ tt) h in omega arith
 
 -- a row's state is one of the states of rows so long
@@ -28,7 +28,7 @@ state_below [] = lit≤ tt
 state_below (x ∷ xs) = omega (arith, digit_small x, state_below xs, pow-suc 3 (length xs))
 
 -- seats_of k gives k seats
-length_seats : (k s : ℕ) → length (seats_of k s) ≡ k
+pub length_seats : (k s : ℕ) → length (seats_of k s) ≡ k
 length_seats zero s = refl
 length_seats (suc k) s = ap suc (length_seats k (s / 3))
 
@@ -66,7 +66,7 @@ few_ways Free = lit≤ tt
 few_ways Held = lit≤ tt
 few_ways Sold = lit≤ tt
 
-few_changed : (xs : List Seat) → length (changed xs) ≤ 2 * length xs
+pub few_changed : (xs : List Seat) → length (changed xs) ≤ 2 * length xs
 few_changed [] = lit≤ tt
 few_changed (x ∷ xs) = simp (length-append, length-map) (omega (arith, few_ways x, few_changed xs))
 

@@ -3,7 +3,7 @@ ghost use Rattle.std.specs.Prelude.{◌≡◌};
 ghost use Rattle.flow.specs.Faults.{fill_number, fill_place, row_number};
 
 /// Why filling a table flow is refused. A place is a state or, for a target, an index into the moves.
-#[derive(Clone, Copy, Debug, PartialEq)]
+#[derive(Clone, Copy, Debug, PartialEq, Eq, Hash)]
 pub enum FillFault {
     /// Not 1 to 1,024 label words, or another number of start bytes, or not one bound more.
     Sizes,
@@ -45,7 +45,7 @@ impl FillFault {
 }
 
 /// Why a row of seats is refused.
-#[derive(Clone, Copy, Debug, PartialEq)]
+#[derive(Clone, Copy, Debug, PartialEq, Eq, Hash)]
 pub enum RowFault {
     /// Not 1 to 6 seats.
     Seats,

@@ -7,6 +7,7 @@ ghost use Rattle.flow.specs.Meaning.{Meaning, Limits};
 mod faults;
 mod seat;
 mod seat_row;
+mod seats;
 mod table_flow;
 
 pub use faults::{FillFault, RowFault};
@@ -20,8 +21,6 @@ pub use table_flow::TableFlow;
 /// list or a label. The limits hold of every flow, so that code over any flow may lean on them.
 pub trait Flow {
     ghost meaning: { Self → Meaning };
-
-    ghost limits: { (x : Self) → Limits (meaning x) };
 
     /// How many states there are.
     fn count(&self) -> u16
@@ -42,4 +41,7 @@ pub trait Flow {
     /// Whether `s` carries the label `l`.
     fn carries(&self, s: u16, l: u8) -> bool
         ensures { result ≡ (meaning self.now).label l s };
+
+    // A law: each kind of flow proves it, and code over any flow may lean on it.
+    ghost limits: { (x : Self) → Limits (meaning x) };
 }

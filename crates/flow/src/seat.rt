@@ -1,9 +1,9 @@
 //! One seat of a row: free, held or sold.
 ghost use Rattle.std.specs.Prelude.{◌≡◌, length, slice_index_or};
-ghost use Rattle.flow.specs.Seats.{digit_of, becomes};
+ghost use Rattle.flow.specs.Seats.{seat_of, digit_of, becomes};
 
 /// A seat, as a buyer finds it.
-#[derive(Clone, Copy, PartialEq)]
+#[derive(Clone, Copy, Debug, PartialEq, Eq, Hash)]
 pub enum Seat {
     Free,
     Held,
@@ -11,6 +11,17 @@ pub enum Seat {
 }
 
 impl Seat {
+    /// The seat of a base-3 digit.
+    pub(crate) fn of_digit(digit: u16) -> Seat
+        ensures { result ≡ seat_of digit }
+    {
+        match digit {
+            0 => Seat::Free,
+            1 => Seat::Held,
+            _ => Seat::Sold,
+        }
+    }
+
     /// Its base-3 digit in the number of a state.
     pub(crate) fn digit(self) -> u16
         ensures { result ≡ digit_of self }

@@ -1,113 +1,133 @@
 //! A flow read from four tables of the caller.
-ghost use Rattle.std.specs.Prelude.{◌≡◌, ◌+◌, ◌-◌, ◌<◌, true, [], ◌∷◌, length, slice_index};
+ghost use Rattle.std.specs.Prelude.{◌≡◌, true, [], ◌∷◌, length, slice_index, Ok, Err, OnOk, OnErr, IfOk, IfErr};
 ghost use Rattle.flow.specs.Meaning.{Alone};
-ghost use Rattle.flow.specs.Tables.{table_meaning, some_marked, Sized, Stepped, Moving, Aimed};
+ghost use Rattle.flow.specs.Tables.{tables_of, table_meaning, some_marked, Sized, Stepped, Moving, Aimed};
 ghost use Rattle.flow.specs.TableLimits.{table_limits};
+ghost use Rattle.flow.specs.Filling.{fill_answer};
 
-use super::Flow;
+mod tables;
 
-mod filling;
+use crate::{FillFault, Flow};
+use tables::Tables;
 
 /// A flow over four tables, which it borrows: 32 label bits a state, a start byte a state, the moves of all states one
 /// after the other, and the bounds. State `s` has the moves from `bounds[s]` up to but not including `bounds[s + 1]`.
-#[derive(Drop)]
+#[derive(Debug, Drop)]
 pub struct TableFlow<'a> {
-    labels: &'a [u32],
-    starts: &'a [u8],
-    moves: &'a [u16],
-    bounds: &'a [u32],
-    ghost sized: { Sized labels.now starts.now bounds.now },
-    ghost stepped: { Stepped (length labels.now) moves.now bounds.now },
-    ghost moving: { Moving (length labels.now) bounds.now },
-    ghost aimed: { Aimed (length labels.now) moves.now },
-    ghost begun: { some_marked starts.now ≡ true },
+    tables: Tables<'a>,
+    // The invariant of `tables`, once more: the law `limits` sees the fields alone.
+    ghost sized: { Sized tables },
+    ghost stepped: { Stepped tables },
+    ghost moving: { Moving tables },
+    ghost aimed: { Aimed tables },
+    ghost begun: { some_marked tables ≡ true },
 }
 
 impl<'a> TableFlow<'a> {
     /// One state, which is a start and its own next state, without labels.
     pub fn fresh() -> TableFlow<'a>
-        ensures labels { result.labels.now ≡ 0 ∷ [] }
-        ensures starts { result.starts.now ≡ 1 ∷ [] }
-        ensures moves { result.moves.now ≡ 0 ∷ [] }
-        ensures bounds { result.bounds.now ≡ 0 ∷ 1 ∷ [] }
-        ensures meaning { Alone (table_meaning result.labels.now result.starts.now result.moves.now result.bounds.now) }
+        ensures labels { result.tables.labels ≡ 0 ∷ [] }
+        ensures starts { result.tables.starts ≡ 1 ∷ [] }
+        ensures moves { result.tables.moves ≡ 0 ∷ [] }
+        ensures bounds { result.tables.bounds ≡ 0 ∷ 1 ∷ [] }
+        ensures meaning { Alone (table_meaning result.tables) }
     {
         TableFlow {
-            labels: &[0],
-            starts: &[1],
-            moves: &[0],
-            bounds: &[0, 1],
+            tables: Tables {
+                labels: &[0],
+                starts: &[1],
+                moves: &[0],
+                bounds: &[0, 1],
+            },
         }
     }
 
-    // How many moves lie between the bounds of `s`.
-    fn move_count(&self, s: usize) -> u16
-        requires { s < length self.now.labels.now }
-        ensures { result ≡ slice_index self.now.bounds.now (s + 1) - slice_index self.now.bounds.now s }
+    /// A flow of these tables, or why they make none.
+    pub fn new(
+        labels: &'a [u32],
+        starts: &'a [u8],
+        moves: &'a [u16],
+        bounds: &'a [u32],
+    ) -> Result<TableFlow<'a>, FillFault>
+        ensures accepted { OnOk result (fill_answer (tables_of labels.now starts.now moves.now bounds.now) ≡ Ok tt) }
+        ensures refused { IfErr result (λ e. fill_answer (tables_of labels.now starts.now moves.now bounds.now) ≡ Err e) }
+        ensures tables { IfOk result (λ t. t.tables ≡ tables_of labels.now starts.now moves.now bounds.now) }
     {
-        (self.bounds[s + 1] - self.bounds[s]) as u16
+        let tables = Tables::new(labels, starts, moves, bounds)?;
+        tables.check_bounds()?;
+        tables.check_moves()?;
+        tables.check_targets()?;
+        tables.check_starts()?;
+        Ok(TableFlow { tables })
     }
 
-    // The `k`-th of them.
-    fn move_at(&self, s: usize, k: u16) -> u16
-        requires state { s < length self.now.labels.now }
-        requires place { k < slice_index self.now.bounds.now (s + 1) - slice_index self.now.bounds.now s }
-        ensures { result ≡ slice_index self.now.moves.now (slice_index self.now.bounds.now s + k) }
+    /// Takes the tables in place of its own, or refuses and stays as it is.
+    pub fn fill(
+        &mut self,
+        labels: &'a [u32],
+        starts: &'a [u8],
+        moves: &'a [u16],
+        bounds: &'a [u32],
+    ) -> Result<(), FillFault>
+        ensures value { result ≡ fill_answer (tables_of labels.now starts.now moves.now bounds.now) }
+        ensures ok { OnOk result (self.new.tables ≡ tables_of labels.now starts.now moves.now bounds.now) }
+        ensures err { OnErr result (self.new ≡ self.old) }
     {
-        self.moves[self.bounds[s] as usize + k as usize]
+        *self = TableFlow::new(labels, starts, moves, bounds)?;
+        Ok(())
+    }
+
+    // The moves of `s`; none where it is no state.
+    fn moves_of(&self, s: u16) -> &[u16]
+        ensures { result.now ≡ (table_meaning self.now.tables).nexts s }
+    {
+        let s = s as usize;
+        if s >= self.tables.labels.len() {
+            return &[];
+        }
+        let from = self.tables.bounds[s] as usize;
+        let to = self.tables.bounds[s + 1] as usize;
+        &self.tables.moves[from..to]
     }
 }
 
 impl Flow for TableFlow<'_> {
-    ghost meaning = { λ t. table_meaning t.labels.now t.starts.now t.moves.now t.bounds.now };
-
-    ghost limits = { λ t. table_limits t.labels.now t.starts.now t.moves.now t.bounds.now t.sized t.stepped t.moving t.aimed t.begun };
+    ghost meaning = { λ t. table_meaning t.tables };
 
     fn count(&self) -> u16
-        ensures { result ≡ (table_meaning self.now.labels.now self.now.starts.now self.now.moves.now self.now.bounds.now).count }
+        ensures { result ≡ (table_meaning self.now.tables).count }
     {
-        self.labels.len() as u16
+        self.tables.labels.len() as u16
     }
 
     fn degree(&self, s: u16) -> u16
-        ensures { result ≡ length ((table_meaning self.now.labels.now self.now.starts.now self.now.moves.now self.now.bounds.now).nexts s) }
+        ensures { result ≡ length ((table_meaning self.now.tables).nexts s) }
     {
-        let s = s as usize;
-        if s >= self.labels.len() {
-            0
-        } else {
-            self.move_count(s)
-        }
+        self.moves_of(s).len() as u16
     }
 
     fn next(&self, s: u16, k: u16) -> u16
-        ensures { result ≡ slice_index ((table_meaning self.now.labels.now self.now.starts.now self.now.moves.now self.now.bounds.now).nexts s) k }
+        ensures { result ≡ slice_index ((table_meaning self.now.tables).nexts s) k }
     {
-        let s = s as usize;
-        if s >= self.labels.len() {
-            return 0;
-        }
-        if k >= self.move_count(s) {
-            0
-        } else {
-            self.move_at(s, k)
-        }
+        self.moves_of(s).get(k as usize).copied().unwrap_or(0)
     }
 
     fn is_start(&self, s: u16) -> bool
-        ensures { result ≡ (table_meaning self.now.labels.now self.now.starts.now self.now.moves.now self.now.bounds.now).start s }
+        ensures { result ≡ (table_meaning self.now.tables).start s }
     {
-        let s = s as usize;
-        s < self.labels.len() && self.starts[s] != 0
+        self.tables.starts.get(s as usize).is_some_and(|&b| b != 0)
     }
 
     fn carries(&self, s: u16, l: u8) -> bool
-        ensures { result ≡ (table_meaning self.now.labels.now self.now.starts.now self.now.moves.now self.now.bounds.now).label l s }
+        ensures { result ≡ (table_meaning self.now.tables).label l s }
     {
-        let s = s as usize;
-        if s >= self.labels.len() || l >= 32 {
-            return false;
-        }
-        (self.labels[s] >> l) % 2 == 1
+        l < 32
+            && self
+                .tables
+                .labels
+                .get(s as usize)
+                .is_some_and(|&word| (word >> l) % 2 == 1)
     }
+
+    ghost limits = { λ t. table_limits t.tables t.sized t.stepped t.moving t.aimed t.begun };
 }

@@ -39,6 +39,8 @@ mod tests {
                 moves: 4375,
             }
         );
+        let words = counts.to_string(rt.alloc())?;
+        assert_eq!(rt; words.as_str(), "1 flows, 729 states, 1 starts, 4375 moves");
         let line = count_line(rt.alloc(), counts)?;
         assert_eq!(rt;
             line.as_str(),

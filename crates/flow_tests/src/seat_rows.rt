@@ -7,10 +7,9 @@ mod tests {
 
     // How many states a row has, or the number of the refusal.
     fn states(seats: u8) -> Result<u16, u16> {
-        match SeatRow::new(seats) {
-            Ok(row) => Ok(row.count()),
-            Err(fault) => Err(fault.number()),
-        }
+        SeatRow::new(seats)
+            .map(|row| row.count())
+            .map_err(|fault| fault.number())
     }
 
     #[test]

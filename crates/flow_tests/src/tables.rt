@@ -22,11 +22,10 @@ mod tests {
         moves: &'a [u16],
         bounds: &'a [u32],
     ) -> Option<(u16, usize)> {
-        let mut flow = TableFlow::fresh();
-        match flow.fill(labels, starts, moves, bounds) {
-            Ok(()) => None,
-            Err(fault) => Some((fault.number(), fault.place())),
-        }
+        TableFlow::fresh()
+            .fill(labels, starts, moves, bounds)
+            .err()
+            .map(|fault| (fault.number(), fault.place()))
     }
 
     #[test]
@@ -68,6 +67,20 @@ mod tests {
             (flow.carries(0, 1), flow.carries(1, 1), flow.carries(2, 1)),
             (false, false, true)
         );
+    }
+
+    #[test]
+    fn made_of_tables(rt: HostRuntime) -> Result<(), Fail> {
+        let flow = TableFlow::new(&LABELS, &STARTS, &MOVES, &BOUNDS)?;
+        assert_eq!(rt;
+            (flow.count(), flow.next(1, 1), flow.carries(1, 0)),
+            (3, 2, true)
+        );
+        assert_eq!(rt;
+            TableFlow::new(&[0], &[0], &[0], &[0, 1]).err(),
+            Some(FillFault::NoStart)
+        );
+        Ok(())
     }
 
     #[test]
@@ -184,12 +197,7 @@ mod tests {
 
     // The bounds of n states with one move each.
     fn single(heap: Global, n: u32) -> Result<Vec<u32>, AllocError> {
-        let mut bounds = Vec::new(heap);
-        for s in 0..n {
-            bounds.push(s)?;
-        }
-        bounds.push(n)?;
-        Ok(bounds)
+        (0..=n).collect(heap)
     }
 
     // What filling n states refuses, each with one move to state 0.

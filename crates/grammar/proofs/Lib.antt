@@ -11,7 +11,6 @@ pub mod Streams
 pub mod Trees
 pub mod Segments
 pub mod Places
-pub mod Owing
 pub mod Strikes
 pub mod Lists
 pub mod Rights

@@ -1,7 +1,7 @@
 -- Each part of a rule stands in its place: its form, its sign and its operands are there.
 use Rattle.std.proofs.Common.{◌≡◌, ℕ, ◌+◌, ◌-◌, ◌<◌, ◌≤◌, List, [], ◌∷◌, ◌++◌, length, get_or, refl, ap, ◌∙◌, subst, ⊎_elim, arith, length-append}
 use Rattle.std.proofs.lemmas.Bool.{cases_lt}
-use Rattle.grammar.specs.Forms.{Form, Unary, Binary, Part, parts, size, arity, root}
+use Rattle.grammar.specs.Forms.{Form, Part, parts, size, root}
 use Rattle.grammar.specs.Forms.Form.{yes_form, no_form, leaf, one, two}
 use Rattle.grammar.specs.Forms.Part.{always, on_one, on_two}
 use Rattle.grammar.specs.Signs.{Sign, under, left, right, signs, sign}
@@ -99,25 +99,6 @@ module _ {f g : Form ℕ} {k : ℕ} {p : Sign} (d : Inside f k p g) (i : ℕ) (e
 
   pub inside_operands_at : operands_in f i ≡ root_operands k g
   inside_operands_at = operand_at (operands_last k g).0 (root_operands k g) (operands_last k g).1 no_operand
-
-no_operands : (k : ℕ) (g : Form ℕ) → arity (root g) ≡ 0 → all_operands k g ≡ no_operand ∷ []
-no_operands k yes_form e = refl
-no_operands k no_form e = refl
-no_operands k (leaf i) e = refl
-no_operands k (one o g) e = absurd (omega arith)
-no_operands k (two o g h) e = absurd (omega arith)
-
-pub inside_leaf : {f g : Form ℕ} {k : ℕ} {p : Sign} → Inside f k p g → (i : ℕ) → k + size g ≡ i + 1 → arity (root g) ≡ 0 → (x : Operands) → get_or (all_operands 0 f) i x ≡ no_operand
-inside_leaf {g = g} {k = k} d i e h = operand_at d i e [] no_operand (no_operands k g h)
-
-pub inside_one : {f g : Form ℕ} {k : ℕ} {p : Sign} {o : Unary} → Inside f k p (one o g) → (i : ℕ) → k + size (one o g) ≡ i + 1 → (x : Operands) → get_or (all_operands 0 f) i x ≡ operand (i - 1)
-inside_one {g = g} {k = k} {o = o} d i e x =
-    operand_at d i e (all_operands k g) (operand (k + size g - 1)) refl x ∙ ap (λ n. operand (n - 1)) (omega arith)
-
-pub inside_two : {f a b : Form ℕ} {k : ℕ} {p : Sign} {o : Binary} → Inside f k p (two o a b) → (i : ℕ) → k + size (two o a b) ≡ i + 1 → (x : Operands) → get_or (all_operands 0 f) i x ≡ operands (k + size a - 1) (i - 1)
-inside_two {a = a} {b = b} {k = k} d i e x =
-    operand_at d i e (all_operands k a ++ all_operands (k + size a) b) (operands (k + size a - 1) (k + size a + size b - 1)) refl x
-    ∙ ap (λ n. operands (k + size a - 1) (n - 1)) (omega arith)
 
 -- the form whose root is part i
 pub record At (f : Form ℕ) (i : ℕ) : Type 0 where

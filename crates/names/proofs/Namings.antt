@@ -1,7 +1,12 @@
--- The bytes that a name keeps, and a name list that grows by one name after another.
-use Rattle.std.proofs.Common.{◌≡◌, ℕ, ◌+◌, ◌<◌, ◌≤◌, Bool, true, ◌&&◌, List, [], ◌∷◌, ◌++◌, map, length, get_or, take, set, Some, None, Option, sym, refl, ap, ◌∙◌, arith, Bor}
+-- A name found in a list, and a name list that grows by one name after another.
+use Rattle.std.proofs.Common.{◌≡◌, ℕ, ◌+◌, ◌<◌, ◌≤◌, Bool, true, false, cond, ◌&&◌, List, [], ◌∷◌, ◌++◌, length, get_or, take, Some, None, Option, Ok, Err, Result, sym, refl, ap, ◌∙◌, add-one, arith, Bor}
 use borrow.Author.Tests.{clash}
-use Rattle.std.proofs.lemmas.List.{take_at, take_all, take_more, take_more_set, length-map, length-take-le, get_or-map, get_or-take, map_push}
+use Rattle.std.specs.List.{position, position_from}
+use Rattle.std.proofs.lemmas.Iterator.Adapters.{position_from-zero}
+use Rattle.std.proofs.lemmas.List.{take_all, take_more, length-map, length-take-le, get_or-map, map_push}
+use Rattle.fixed_vec.specs.FixedVec.{Extended, items}
+use Rattle.fixed_vec.specs.declared.FixedVec.{FixedVec}
+use Rattle.fixed_vec.specs.declared.Full.{Full}
 use Rattle.grammar.specs.Forms.Form.{no_form, leaf}
 use Rattle.grammar.specs.Words.{same}
 use Rattle.grammar.specs.Answering.{meant}
@@ -12,41 +17,37 @@ use Rattle.grammar.proofs.Listings.{wrong_long}
 use Rattle.grammar.proofs.Lists.{leaf_absent, no_absent, right_push, wrong_next}
 use Rattle.names.specs.declared.name.Name.{Name}
 use Rattle.names.specs.declared.names.Names.{Names}
-use Rattle.names.specs.Naming.{Named, bytes_of, first_names, is_right, spellings}
+use Rattle.names.specs.Naming.{Named, bytes_of, found, is_right, names_in, spellings}
 use Rattle.names.specs.Lists.{Fresh, names_of}
-
--- what is copied to the front is kept there
-pub kept_front : (bytes ys rest : List ℕ) → ys ≡ bytes → take (length bytes) (ys ++ rest) ≡ bytes
-kept_front bytes ys rest e = take_at ys rest (length bytes) (ap length e) ∙ e
 
 pub is_right_lem : (v : Verdict) → is_right v ≡ true → v ≡ right
 is_right_lem right e = refl
 is_right_lem (wrong p) e = absurd (clash e)
 
--- the first entries of a table
-module _ (entries : List Name) (n : ℕ) (h : n ≤ length entries) where
-  pub length_first : length (first_names entries n) ≡ n
-  length_first = length-map (take n entries) bytes_of ∙ length-take-le n entries h
+meant_from : (n : List ℕ) (i : ℕ) (entries : List Name) → meant i (names_in entries) n ≡ found (position_from (λ e. same (bytes_of e) n) i entries)
+meant_from n i [] = refl
+meant_from n i (e ∷ es) =
+    ap (λ j. cond (same (bytes_of e) n) (leaf i) (meant j (names_in es) n)) (sym (add-one i))
+    ∙ go (same (bytes_of e) n) (meant_from n (i + 1) es)
+  where
+    go : (b : Bool) → meant (i + 1) (names_in es) n ≡ found (position_from (λ e. same (bytes_of e) n) (i + 1) es) → cond b (leaf i) (meant (i + 1) (names_in es) n) ≡ found (cond b (Some i) (position_from (λ e. same (bytes_of e) n) (i + 1) es))
+    go true h = refl
+    go false h = h
 
-  pub first_at : (i : ℕ) (d : Name) → i < n → get_or (first_names entries n) i [] ≡ bytes_of (get_or entries i d)
-  first_at i d k =
-      let e = length-take-le n entries h in
-      get_or-map bytes_of (take n entries) i d [] (omega arith) ∙ ap bytes_of (get_or-take n entries i d k)
+-- a name stands for the place of its entry
+pub meant_position : (n : List ℕ) (entries : List Name) → meant 0 (names_in entries) n ≡ found (position (λ e. same (bytes_of e) n) entries)
+meant_position n es = meant_from n 0 es ∙ sym (ap found (position_from-zero (λ e. same (bytes_of e) n) es))
 
-  -- an entry compared with a name
-  pub same_at : (i : ℕ) (d : Name) (name : List ℕ) (b : Bool) → i < n → b ≡ same (bytes_of (get_or entries i d)) name → same (get_or (first_names entries n) i []) name ≡ b
-  same_at i d name b k e = ap (λ m. same m name) (first_at i d k) ∙ sym e
+-- a right list and a name more that it lacks
+pub fine_push : (es : List Name) (name : Name) → length (names_in es) < 32 → is_right (wrong_in (names_in es)) ≡ true → absent (names_in es) (bytes_of name) ≡ true → is_right (wrong_in (names_in (es ++ name ∷ []))) ≡ true
+fine_push es name k r a =
+    ap (λ ns. is_right (wrong_in ns)) (map_push bytes_of es name)
+    ∙ ap is_right (right_push (names_in es) (bytes_of name) k (is_right_lem _ r) name.legal a)
 
--- one entry more
-module _ (entries : List Name) (n : ℕ) (name : Name) (h : n < length entries) where
-  pub first_push : first_names (set entries n name) (n + 1) ≡ first_names entries n ++ bytes_of name ∷ []
-  first_push = ap (map bytes_of) (take_more_set entries n name h) ∙ map_push bytes_of (take n entries) name
-
-  pub fine_push : n < 32 → is_right (wrong_in (first_names entries n)) ≡ true → absent (first_names entries n) (bytes_of name) ≡ true → is_right (wrong_in (first_names (set entries n name) (n + 1))) ≡ true
-  fine_push k r a =
-      let l = length_first entries n (omega arith) in
-      ap (λ ns. is_right (wrong_in ns)) first_push
-      ∙ ap is_right (right_push (first_names entries n) (bytes_of name) (omega arith) (is_right_lem _ r) name.legal a)
+-- the same of a list in fixed memory, which is full or takes the name
+pub taken : (old more : FixedVec Name 32) (name : Name) (r : Result (Unit {0}) Full) → Extended old more (name ∷ []) r → length (names_in (items old)) < 32 → is_right (wrong_in (names_in (items old))) ≡ true → absent (names_in (items old)) (bytes_of name) ≡ true → is_right (wrong_in (names_in (items more))) ≡ true
+taken old more name (Ok u) e k r a = ap (λ es. is_right (wrong_in (names_in es))) e ∙ fine_push (items old) name k r a
+taken old more name (Err f) e k r a = ap (λ v. is_right (wrong_in (names_in (items v)))) e.0 ∙ r
 
 pub fresh_taken : (names : List (List ℕ)) (bytes : List ℕ) (i : ℕ) → meant 0 names bytes ≡ leaf i → Fresh names bytes None
 fresh_taken names bytes i e = and_no (naming bytes) (absent names bytes) (leaf_absent names 0 i bytes e)
@@ -67,8 +68,8 @@ module _ (ns : List (Bor (List ℕ))) where
   many h = let e = long in wrong_long (spellings ns) (omega arith)
 
   module _ (l : Names) (i : ℕ) (e : names_of l ≡ take i (spellings ns)) where
-    pub count_is : i ≤ length ns → l.count ≡ i
-    count_is h = let x = long in sym (length_first l.entries l.count l.held) ∙ ap length e ∙ length-take-le i (spellings ns) (omega arith)
+    pub count_is : i ≤ length ns → length (names_of l) ≡ i
+    count_is h = let x = long in ap length e ∙ length-take-le i (spellings ns) (omega arith)
 
     right_front : wrong_in (take i (spellings ns)) ≡ right
     right_front = ap wrong_in (sym e) ∙ is_right_lem _ l.fine

@@ -1,9 +1,10 @@
 -- What a name list holds and answers.
 use Rattle.std.specs.Prelude.{◌≡◌, ℕ, ◌<◌, ◌≤◌, true, false, ◌&&◌, List, [], length, Some, None, Ok, Err, Option, Result, slice_index_or}
 use Rattle.std.specs.Borrow.{Bor}
+use Rattle.fixed_vec.specs.FixedVec.{items}
 use Rattle.grammar.specs.Reading.{absent, naming, wrong_in}
 use Rattle.grammar.specs.Reading.Verdict.{right, wrong}
-use Rattle.names.specs.Naming.{bytes_of, first_names}
+use Rattle.names.specs.Naming.{bytes_of, names_in}
 use Rattle.names.specs.declared.name.Name.{Name}
 use Rattle.names.specs.declared.names.Names.{Names}
 use Rattle.names.specs.declared.faults.NamesFault.{NamesFault}
@@ -11,7 +12,7 @@ use Rattle.names.specs.declared.faults.NamesFault.TheVariants.{Many, Entry}
 
 -- the names of a list, entry by entry
 abbrev pub names_of : Names → List (List ℕ)
-names_of l = first_names l.entries l.count
+names_of l = names_in (items l.entries)
 
 -- the place of a fault of a name list: its entry, or 32 where there are more
 abbrev pub entry_of : NamesFault → ℕ

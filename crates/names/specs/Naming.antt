@@ -1,6 +1,7 @@
 -- The names that a name list holds, and a name found in it.
-use Rattle.std.specs.Prelude.{◌≡◌, ℕ, Bool, true, false, List, map, take, Some, None, Option}
+use Rattle.std.specs.Prelude.{◌≡◌, ℕ, Bool, true, false, List, map, Some, None, Option}
 use Rattle.std.specs.Borrow.{Bor}
+use Rattle.fixed_vec.specs.FixedVec.{items}
 use Rattle.grammar.specs.Forms.{Form}
 use Rattle.grammar.specs.Forms.Form.{no_form, leaf}
 use Rattle.grammar.specs.Reading.{Verdict, naming}
@@ -13,11 +14,11 @@ spellings ns = map (λ n. n.now) ns
 
 -- the bytes of a name
 abbrev pub bytes_of : Name → List ℕ
-bytes_of n = take n.len n.bytes
+bytes_of n = items n.bytes
 
--- the first names of a table
-abbrev pub first_names : List Name → ℕ → List (List ℕ)
-first_names entries count = map bytes_of (take count entries)
+-- the names of a list of entries
+abbrev pub names_in : List Name → List (List ℕ)
+names_in entries = map bytes_of entries
 
 abbrev pub is_right : Verdict → Bool
 is_right right = true

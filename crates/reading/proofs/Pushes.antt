@@ -1,43 +1,26 @@
 -- One part more.
-use Rattle.std.proofs.Common.{◌≡◌, ℕ, zero, suc, ◌+◌, ◌<◌, ◌≤◌, List, [], ◌∷◌, ◌++◌, map, length, take, set, sym, refl, ap, ◌∙◌, add-one, arith, length-append, length-set, take_all}
-use mathlib.Core.List.{map-append}
-use lib.Seq.{take-append-le}
+use Rattle.std.proofs.Common.{◌≡◌, ℕ, ◌+◌, ◌≤◌, min, List, [], ◌∷◌, ◌++◌, Ok, Err, Result, map, length, take, sym, ap, ◌∙◌, arith, length-append, length-take, take_all}
+use Rattle.std.proofs.lemmas.List.{length-map, map-append, take-append-le}
 use Rattle.grammar.specs.Forms as form
-use Rattle.reading.specs.Growing.{Holds}
-use Rattle.reading.specs.Holding.{parting}
+use Rattle.fixed_vec.specs.FixedVec.{Extended, items}
+use Rattle.fixed_vec.specs.declared.FixedVec.{FixedVec}
+use Rattle.fixed_vec.specs.declared.Full.{Full}
+use Rattle.reading.specs.Holding.{parting, parts_in}
 use Rattle.reading.specs.declared.part.Part.{Part}
 
-take_set_more : (n : ℕ) (ps : List Part) (p : Part) → n < length ps → take (suc n) (set ps n p) ≡ take n ps ++ p ∷ []
-take_set_more n [] p h = absurd (omega arith)
-take_set_more zero (x ∷ ps) p h = refl
-take_set_more (suc n) (x ∷ ps) p h = ap (λ l. x ∷ l) (take_set_more n ps p (omega arith))
+module _ (v w : FixedVec Part 64) (p : Part) (xs : List (form.Part ℕ)) (kept : parts_in v ≡ take 64 xs) where
+  -- how many of the parts are kept
+  few_kept : length (items v) ≡ min 64 (length xs)
+  few_kept = sym (length-map (items v) parting) ∙ ap length kept ∙ length-take 64 xs
 
-module _ (ps : List Part) (p : Part) (n : ℕ) where
-  pub push_kept : (a : n ≤ 65) (b : n + 1 ≤ 65) (xs : List (form.Part ℕ)) → n < 64 → Holds (record { parts = ps; count = n; few = a }) xs → Holds (record { parts = set ps n p; count = n + 1; few = b }) (xs ++ parting p ∷ [])
-  push_kept a b xs h k =
-      let c = k.counted in
-      let full = k.full in
-      let few : length xs ≤ 64 = omega arith in
-      let more : length (xs ++ parting p ∷ []) ≤ 64 = simp length-append (omega arith) in
-      record {
-        full = length-set ps n p ∙ full;
-        counted = simp length-append (omega arith);
-        kept =
-            ap (λ i. map parting (take i (set ps n p))) (add-one n)
-            ∙ ap (map parting) (take_set_more n ps p (omega arith))
-            ∙ map-append parting (take n ps) (p ∷ [])
-            ∙ ap (λ l. l ++ parting p ∷ []) (k.kept ∙ take_all 64 xs few)
-            ∙ sym (take_all 64 (xs ++ parting p ∷ []) more);
-      }
-
-  pub push_past : (a : n ≤ 65) (b : 65 ≤ 65) (xs : List (form.Part ℕ)) → 64 ≤ n → Holds (record { parts = ps; count = n; few = a }) xs → Holds (record { parts = ps; count = 65; few = b }) (xs ++ parting p ∷ [])
-  push_past a b xs h k =
-      let c = k.counted in
-      let full = k.full in
-      record {
-        full = full;
-        counted = simp length-append (omega arith);
-        kept =
-            ap (map parting) (take_all 65 ps (omega arith) ∙ sym (take_all n ps (omega arith)))
-            ∙ k.kept ∙ sym (take-append-le 64 xs (parting p ∷ []) (omega arith));
-      }
+  -- a part that is kept, and one that finds no place
+  pub push_kept : (r : Result (Unit {0}) Full) → Extended v w (p ∷ []) r → parts_in w ≡ take 64 (xs ++ parting p ∷ [])
+  push_kept (Ok u) h =
+      let fits : length (items w) ≤ 64 = omega (arith, length-take w.len w.places, w.few) in
+      let more : length (items w) ≡ length (items v) + 1 = ap length h ∙ length-append (items v) (p ∷ []) in
+      let few : length xs ≤ 63 = omega (arith, few_kept) in
+      ap (map parting) h ∙ map-append parting (items v) (p ∷ [])
+      ∙ ap (λ l. l ++ parting p ∷ []) (kept ∙ take_all 64 xs (omega arith))
+      ∙ sym (take_all 64 (xs ++ parting p ∷ []) (simp length-append (omega arith)))
+  push_kept (Err e) h =
+      ap parts_in h.0 ∙ kept ∙ sym (take-append-le 64 xs (parting p ∷ []) (omega (arith, few_kept, h.1)))

@@ -1,5 +1,5 @@
 -- From what the levels say to the answer of a whole text.
-use Rattle.std.proofs.Common.{◌≡◌, ℕ, ◌<◌, ◌≤◌, cond, List, [], length, None, Ok, Err, Option, Result, sym, refl, ap, ◌∙◌, subst, arith, take_all, le-leb}
+use Rattle.std.proofs.Common.{◌≡◌, ℕ, ◌<◌, ◌≤◌, cond, List, [], length, sym, refl, ap, ◌∙◌, subst, arith, take_all, le-leb}
 use borrow.Author.Tests.{lt-leb}
 use Rattle.grammar.specs.Forms.{Form, parts}
 use Rattle.grammar.specs.Words.{Word, Stream}
@@ -20,19 +20,18 @@ use Rattle.grammar.specs.Answering.TextAnswer.{over_long, no_words}
 use Rattle.grammar.proofs.Answering.{only, clean_reads}
 use Rattle.grammar.proofs.Trees.{length-parts}
 use Rattle.reading.specs.Growing.{Holds, parts_of}
-use Rattle.reading.specs.Levels.{left, fell, faulted, Off, RuleRead}
+use Rattle.reading.specs.Levels.{names_in, left, fell, faulted, Off, RuleRead}
 use Rattle.reading.specs.Refusing.{refused}
-use Rattle.reading.specs.Whole.{slip_halt, Stores, PartsRead}
-use Rattle.words.specs.Wording.{slipping, Looked}
+use Rattle.reading.specs.Holding.{parts_in}
+use Rattle.reading.specs.Whole.{slip_halt}
+use Rattle.words.specs.Wording.{slipping}
 use Rattle.words.specs.declared.faults.WordFault.{WordFault}
 use Rattle.words.specs.declared.faults.WordFault.TheVariants.{Strange, Long}
 use Rattle.reading.specs.declared.faults.GrammarFault.{GrammarFault}
 use Rattle.reading.specs.declared.faults.GrammarFault.TheVariants as faults
-use Rattle.reading.specs.declared.faults.RuleFault.{RuleFault}
 use Rattle.reading.specs.declared.faults.RuleFault.TheVariants.{Grammar}
 use Rattle.words.specs.declared.kinds.Binding.TheVariants as binds
-use Rattle.reading.specs.declared.parts.Parts.{Parts}
-use Rattle.words.specs.declared.word.Seen.{Seen}
+use Rattle.reading.specs.declared.levels.Reader.{Reader}
 use Rattle.words.specs.declared.words.Words.{Words}
 
 -- at the outermost level a word that is no sign goes on with nothing
@@ -85,50 +84,39 @@ module _ (names : List (List ℕ)) (text : List ℕ) where
     pub read_fault_from : (r : Words) (e : GrammarFault) → left r ≡ from text 0 → reads start (left r) ≡ faulted e → read_of names text ≡ refused (Grammar e)
     read_fault_from r e same h = read_fault e (ap (reads start) (sym same) ∙ h)
 
-    module _ (a b : Parts) (r t : Words) (m : RuleRead names a b r t) (same : left r ≡ from text 0) where
-      goes_on : reads start (from text 0) ≡ reads (have m.form (plain_or bottom)) (left t)
-      goes_on = ap (reads start) (sym same) ∙ m.goes bottom
+    module _ (r t : Reader) (m : RuleRead r t) (by_names : names_in r ≡ names) (same : left r.words ≡ from text 0) where
+      goes_on : reads start (from text 0) ≡ reads (have m.phrase.form (plain_or bottom)) (left t.words)
+      goes_on = ap (reads start) (sym same) ∙ m.phrase.goes bottom
 
-      pub read_late_slip : (e : WordFault) → left t ≡ slipping e → read_of names text ≡ refused (Grammar (faults.Word e))
-      read_late_slip e h = read_fault (faults.Word e) (goes_on ∙ ap (reads (have m.form (plain_or bottom))) h ∙ fell-slipping _ e)
+      pub read_late_slip : (e : WordFault) → left t.words ≡ slipping e → read_of names text ≡ refused (Grammar (faults.Word e))
+      read_late_slip e h = read_fault (faults.Word e) (goes_on ∙ ap (reads (have m.phrase.form (plain_or bottom))) h ∙ fell-slipping _ e)
 
-      pub read_stray : (p : ℕ) (w : Word) (x : Stream) → left t ≡ next p w x → read_of names text ≡ fault 5 p
+      pub read_stray : (p : ℕ) (w : Word) (x : Stream) → left t.words ≡ next p w x → read_of names text ≡ fault 5 p
       read_stray p w x h =
           read_fault (faults.Stray p)
-          (goes_on ∙ ap (reads (have m.form (plain_or bottom))) h
-          ∙ end_miss m.form x p w (subst (Off binds.And) h m.no_amp) (subst (Off binds.Or) h m.no_bar) (subst (Off binds.Implies) h m.no_arrow))
+          (goes_on ∙ ap (reads (have m.phrase.form (plain_or bottom))) h
+          ∙ end_miss m.phrase.form x p w (subst (Off binds.And) h m.no_amp) (subst (Off binds.Or) h m.no_bar) (subst (Off binds.Implies) h m.no_arrow))
 
-      read_tree : (n : ℕ) → left t ≡ end n → read_of names text ≡ kept (length text) (resolve names m.form)
-      read_tree n h = by_reads (tree m.form) (goes_on ∙ ap (reads (have m.form (plain_or bottom))) h)
+      read_tree : (n : ℕ) → left t.words ≡ end n → read_of names text ≡ kept (length text) (resolve names m.phrase.form)
+      read_tree n h = by_reads (tree m.phrase.form) (goes_on ∙ ap (reads (have m.phrase.form (plain_or bottom))) h)
 
-      holds_all : Holds a [] → Holds b (parts_of names m.form)
-      holds_all h = m.grown [] h
+      holds_all : Holds r.parts [] → Holds t.parts (parts_of names m.phrase.form)
+      holds_all h = subst (λ n. Holds t.parts (parts_of n m.phrase.form)) by_names (m.phrase.adds.grown [] h)
 
-      pub read_many : (n : ℕ) → left t ≡ end n → Holds a [] → 64 < b.count → read_of names text ≡ fault 6 (length text)
+      pub read_many : (n : ℕ) → left t.words ≡ end n → Holds r.parts [] → 64 < t.parts.count → read_of names text ≡ fault 6 (length text)
       read_many n h k c =
           let counted = (holds_all k).counted in
-          let long = length-parts (resolve names m.form) in
-          read_tree n h ∙ ap (λ z. cond z (the_rule (resolve names m.form)) (fault 6 (length text))) (lt-leb _ 64 (omega arith))
+          let long = length-parts (resolve names m.phrase.form) in
+          read_tree n h ∙ ap (λ z. cond z (the_rule (resolve names m.phrase.form)) (fault 6 (length text))) (lt-leb _ 64 (omega arith))
 
-      pub read_all : (n : ℕ) → left t ≡ end n → Holds a [] → b.count ≤ 64 → (f : Form ℕ) × (read_of names text ≡ the_rule f) × Stores b f
+      pub read_all : (n : ℕ) → left t.words ≡ end n → Holds r.parts [] → t.parts.count ≤ 64 → (f : Form ℕ) × ((read_of names text ≡ the_rule f) × (parts_in t.parts.kept ≡ parts f))
       read_all n h k c =
-          let f : Form ℕ = resolve names m.form in
-          let held = holds_all k in
-          let counted = held.counted in
-          let long = length-parts (resolve names m.form) in (
+          let f : Form ℕ = resolve names m.phrase.form in
+          let counted = (holds_all k).counted in
+          let long = length-parts (resolve names m.phrase.form) in (
             f,
-            read_tree n h ∙ ap (λ z. cond z (the_rule f) (fault 6 (length text))) (le-leb _ 64 (omega arith)),
-            record { full = held.full; counted = omega arith; listed = held.kept ∙ take_all 64 (parts f) (omega arith) },
+            (
+              read_tree n h ∙ ap (λ z. cond z (the_rule f) (fault 6 (length text))) (le-leb _ 64 (omega arith)),
+              (holds_all k).kept ∙ take_all 64 (parts f) (omega arith),
+            ),
           )
-
--- a reader at the beginning
-pub from_first : (all text : List ℕ) (p : ℕ) → all ≡ text → p ≡ 0 → from all p ≡ from text 0
-from_first all text p e f = λ i. from (e i) (f i)
-
--- the exit of a `?`
-pub exits : (names : List (List ℕ)) (text : List ℕ) (r : Result Parts RuleFault) (e : RuleFault) → (y : RuleFault) × (r ≡ Err y) × (y ≡ e) → read_of names text ≡ refused e → PartsRead names text r
-exits names text r e p h = subst (PartsRead names text) (sym (p.1 ∙ ap Err p.2)) h
-
--- what a look showed at the end
-pub looked_end : (text : List ℕ) (p : ℕ) (o : Option Seen) → o ≡ None → Looked text p (Ok o) → from text p ≡ end (length text)
-looked_end text p o e h = subst (λ y. Looked text p (Ok y)) e h

@@ -1,15 +1,17 @@
 -- The parts that the code holds, as the parts of a form.
-use Rattle.std.specs.Prelude.{ℕ, List, map, take, Some, None, Option}
+use Rattle.std.specs.Prelude.{ℕ, List, map, Some, None, Option}
 use Rattle.grammar.specs.Forms as form
 use Rattle.words.specs.Kinds.{part_of}
+use Rattle.fixed_vec.specs.FixedVec.{items}
+use Rattle.fixed_vec.specs.declared.FixedVec.{FixedVec}
 use Rattle.reading.specs.declared.part.Part.{Part}
 
 abbrev pub parting : Part → form.Part ℕ
 parting p = part_of p.kind p.label
 
--- the first parts of a table
-abbrev pub first_parts : List Part → ℕ → List (form.Part ℕ)
-first_parts ps count = map parting (take count ps)
+-- the parts in their order
+abbrev pub parts_in : FixedVec Part 64 → List (form.Part ℕ)
+parts_in v = map parting (items v)
 
 -- the number of a label; none for other parts
 abbrev pub label_of : form.Part ℕ → Option ℕ

@@ -4,15 +4,18 @@ use Rattle.grammar.specs.Forms as form
 use Rattle.grammar.specs.Words as word
 use Rattle.grammar.specs.Scanning as scan
 use Rattle.grammar.specs.Grammar.{Tree}
-use Rattle.grammar.specs.Machine.{Stack, State, give, fresh}
+use Rattle.grammar.specs.Machine.{Awaits, Stack, State, give, fresh}
 use Rattle.grammar.specs.Machine.Awaits.{a_rule, a_and, a_unary}
 use Rattle.grammar.specs.Machine.Stack.{plain_or, plain_and}
 use Rattle.grammar.specs.Machine.State.{need, have}
 use Rattle.grammar.specs.Reading.{Outcome, reads}
 use Rattle.grammar.specs.Reading.Outcome.{stuck, slipped}
+use Rattle.names.specs.Lists.{names_of}
 use Rattle.reading.specs.Growing.{Grown}
 use Rattle.words.specs.Kinds.{part_of}
-use Rattle.reading.specs.declared.parts.Parts.{Parts}
+use Rattle.reading.specs.declared.levels.Reader.{Reader}
+use Rattle.words.specs.Wording.{wording}
+use Rattle.words.specs.declared.word.Seen.{Seen}
 use Rattle.words.specs.declared.words.Words.{Words}
 use Rattle.words.specs.declared.faults.WordFault.{WordFault}
 use Rattle.words.specs.declared.faults.WordFault.TheVariants.{Strange, Long}
@@ -22,10 +25,12 @@ use Rattle.words.specs.declared.kinds.Kind.{Kind}
 use Rattle.words.specs.declared.kinds.Kind.TheVariants as kinds
 use Rattle.words.specs.declared.kinds.Binding.{Binding}
 use Rattle.words.specs.declared.kinds.Binding.TheVariants as binds
-use Rattle.reading.specs.declared.levels.Due.{Due}
-use Rattle.reading.specs.declared.levels.Due.TheVariants.{Close, Square, Until, Unsquare}
 
--- what is left of a reader's text
+-- the names of a reader
+abbrev pub names_in : Reader → List (List ℕ)
+names_in r = names_of r.names.now
+
+-- what is left of a text
 abbrev pub left : Words → word.Stream
 left r = scan.from r.text.now r.place
 
@@ -72,7 +77,7 @@ Off b (word.end p) = Unit {0}
 Off b (word.slip e p) = Unit {0}
 Off b (word.next p w s) = strength w ≡ Some b → ⊥
 
--- the reader went on over the same text
+-- the words went on over the same text
 pub record Moved (r t : Words) : Type 0 where
   pub same_text : t.text ≡ r.text
   pub further : r.place < t.place
@@ -83,82 +88,89 @@ Taken b r t (Ok (Some k)) = Moved r t × ((p : ℕ) × ((w : word.Word) × ((lef
 Taken b r t (Ok None) = (t ≡ r) × Off b (left r)
 Taken b r t (Err e) = (st : State) → reads st (left r) ≡ fell e
 
-abbrev pub due_word : Due → word.Word
-due_word Close = word.close
-due_word Square = word.square
-due_word Until = word.u_word
-due_word Unsquare = word.unsquare
+-- the next word was taken, or there is none
+abbrev pub Next : Words → Words → Result Seen GrammarFault → Type 0
+Next r t (Ok s) = Moved r t × (left r ≡ word.next s.at (wording s.word) (left t))
+Next r t (Err (faults.Word e)) = (st : State) → reads st (left r) ≡ fell e
+Next r t (Err (faults.Stray p)) = left r ≡ word.end p
 
 -- another word stands there, or none
-abbrev pub Misses : Due → word.Stream → ℕ → Type 0
+abbrev pub Misses : word.Word → word.Stream → ℕ → Type 0
 Misses m (word.end q) p = q ≡ p
 Misses m (word.slip e q) p = ⊥
-Misses m (word.next q w s) p = (q ≡ p) × (w ≢ due_word m)
+Misses m (word.next q w s) p = (q ≡ p) × (w ≢ m)
 
 -- a word that has to stand there was taken, or is not there
-abbrev pub Expected : Due → Words → Words → Result (Unit {0}) GrammarFault → Type 0
-Expected m r t (Ok u) = Moved r t × ((p : ℕ) × (left r ≡ word.next p (due_word m) (left t)))
+abbrev pub Expected : word.Word → Words → Words → Result (Unit {0}) GrammarFault → Type 0
+Expected m r t (Ok u) = Moved r t × ((p : ℕ) × (left r ≡ word.next p m (left t)))
 Expected m r t (Err (faults.Word e)) = (st : State) → reads st (left r) ≡ fell e
 Expected m r t (Err (faults.Stray p)) = Misses m (left r) p
 
-pub record UnaryRead (names : List (List ℕ)) (a b : Parts) (r t : Words) : Type 0 where
+-- the parts of a tree were added by the same names, and the reader went on over the same text
+pub record Adds (r t : Reader) (f : Tree) : Type 0 where
+  pub grown : Grown (names_in r) r.parts t.parts f
+  pub same_names : t.names ≡ r.names
+  pub moved : Moved r.words t.words
+
+-- a phrase was read: what comes of the text where it is awaited comes of what is left of it where the phrase is whole
+pub record Phrase {A : Awaits} (awaited : Stack A → State) (read : Tree → Stack A → State) (r t : Reader) : Type 0 where
   pub form : Tree
-  pub grown : Grown names a b form
-  pub moved : Moved r t
-  pub goes : (s : Stack a_unary) → reads (need s) (left r) ≡ reads (give form s) (left t)
+  pub adds : Adds r t form
+  pub goes : (s : Stack A) → reads (awaited s) (left r.words) ≡ reads (read form s) (left t.words)
+
+abbrev pub UnaryRead : Reader → Reader → Type 0
+UnaryRead r t = Phrase need give r t
 
 -- the same of an atom, whose first word w at p is taken already
-pub record AtomRead (names : List (List ℕ)) (a b : Parts) (p : ℕ) (w : word.Word) (r t : Words) : Type 0 where
+pub record AtomRead (r t : Reader) (p : ℕ) (w : word.Word) : Type 0 where
   pub form : Tree
-  pub grown : Grown names a b form
-  pub same_text : t.text ≡ r.text
-  pub further : r.place ≤ t.place
-  pub goes : (s : Stack a_unary) → reads (need s) (word.next p w (left r)) ≡ reads (give form s) (left t)
+  pub grown : Grown (names_in r) r.parts t.parts form
+  pub same_names : t.names ≡ r.names
+  pub same_text : t.words.text ≡ r.words.text
+  pub further : r.words.place ≤ t.words.place
+  pub goes : (s : Stack a_unary) → reads (need s) (word.next p w (left r.words)) ≡ reads (give form s) (left t.words)
 
-pub record AndRead (names : List (List ℕ)) (a b : Parts) (r t : Words) : Type 0 where
-  pub form : Tree
-  pub grown : Grown names a b form
-  pub moved : Moved r t
-  pub goes : (s : Stack a_and) → reads (need (plain_and s)) (left r) ≡ reads (have form s) (left t)
-  pub no_amp : Off binds.And (left t)
+abbrev pub need_and : Stack a_and → State
+need_and s = need (plain_and s)
 
-pub record OrRead (names : List (List ℕ)) (a b : Parts) (r t : Words) : Type 0 where
-  pub form : Tree
-  pub grown : Grown names a b form
-  pub moved : Moved r t
-  pub goes : (s : Stack a_rule) → reads (fresh s) (left r) ≡ reads (have form (plain_or s)) (left t)
-  pub no_amp : Off binds.And (left t)
-  pub no_bar : Off binds.Or (left t)
+pub record AndRead (r t : Reader) : Type 0 where
+  pub phrase : Phrase need_and have r t
+  pub no_amp : Off binds.And (left t.words)
 
-pub record RuleRead (names : List (List ℕ)) (a b : Parts) (r t : Words) : Type 0 where
-  pub form : Tree
-  pub grown : Grown names a b form
-  pub moved : Moved r t
-  pub goes : (s : Stack a_rule) → reads (fresh s) (left r) ≡ reads (have form (plain_or s)) (left t)
-  pub no_amp : Off binds.And (left t)
-  pub no_bar : Off binds.Or (left t)
-  pub no_arrow : Off binds.Implies (left t)
+abbrev pub have_or : Tree → Stack a_rule → State
+have_or f s = have f (plain_or s)
 
-abbrev pub UnaryDone : List (List ℕ) → Parts → Parts → Words → Words → Result (Unit {0}) GrammarFault → Type 0
-UnaryDone names a b r t (Ok u) = UnaryRead names a b r t
-UnaryDone names a b r t (Err e) = (s : Stack a_unary) → reads (need s) (left r) ≡ faulted e
+pub record OrRead (r t : Reader) : Type 0 where
+  pub phrase : Phrase fresh have_or r t
+  pub no_amp : Off binds.And (left t.words)
+  pub no_bar : Off binds.Or (left t.words)
 
-abbrev pub AtomDone : List (List ℕ) → Parts → Parts → ℕ → word.Word → Words → Words → Result (Unit {0}) GrammarFault → Type 0
-AtomDone names a b p w r t (Ok u) = AtomRead names a b p w r t
-AtomDone names a b p w r t (Err e) = (s : Stack a_unary) → reads (need s) (word.next p w (left r)) ≡ faulted e
+pub record RuleRead (r t : Reader) : Type 0 where
+  pub phrase : Phrase fresh have_or r t
+  pub no_amp : Off binds.And (left t.words)
+  pub no_bar : Off binds.Or (left t.words)
+  pub no_arrow : Off binds.Implies (left t.words)
 
-abbrev pub AndDone : List (List ℕ) → Parts → Parts → Words → Words → Result (Unit {0}) GrammarFault → Type 0
-AndDone names a b r t (Ok u) = AndRead names a b r t
-AndDone names a b r t (Err e) = (s : Stack a_and) → reads (need (plain_and s)) (left r) ≡ faulted e
+abbrev pub UnaryDone : Reader → Reader → Result (Unit {0}) GrammarFault → Type 0
+UnaryDone r t (Ok u) = UnaryRead r t
+UnaryDone r t (Err e) = (s : Stack a_unary) → reads (need s) (left r.words) ≡ faulted e
 
-abbrev pub OrDone : List (List ℕ) → Parts → Parts → Words → Words → Result (Unit {0}) GrammarFault → Type 0
-OrDone names a b r t (Ok u) = OrRead names a b r t
-OrDone names a b r t (Err e) = (s : Stack a_rule) → reads (fresh s) (left r) ≡ faulted e
+abbrev pub AtomDone : Reader → Reader → ℕ → word.Word → Result (Unit {0}) GrammarFault → Type 0
+AtomDone r t p w (Ok u) = AtomRead r t p w
+AtomDone r t p w (Err e) = (s : Stack a_unary) → reads (need s) (word.next p w (left r.words)) ≡ faulted e
 
-abbrev pub RuleDone : List (List ℕ) → Parts → Parts → Words → Words → Result (Unit {0}) GrammarFault → Type 0
-RuleDone names a b r t (Ok u) = RuleRead names a b r t
-RuleDone names a b r t (Err e) = (s : Stack a_rule) → reads (fresh s) (left r) ≡ faulted e
+abbrev pub AndDone : Reader → Reader → Result (Unit {0}) GrammarFault → Type 0
+AndDone r t (Ok u) = AndRead r t
+AndDone r t (Err e) = (s : Stack a_and) → reads (need_and s) (left r.words) ≡ faulted e
+
+abbrev pub OrDone : Reader → Reader → Result (Unit {0}) GrammarFault → Type 0
+OrDone r t (Ok u) = OrRead r t
+OrDone r t (Err e) = (s : Stack a_rule) → reads (fresh s) (left r.words) ≡ faulted e
+
+abbrev pub RuleDone : Reader → Reader → Result (Unit {0}) GrammarFault → Type 0
+RuleDone r t (Ok u) = RuleRead r t
+RuleDone r t (Err e) = (s : Stack a_rule) → reads (fresh s) (left r.words) ≡ faulted e
 
 -- the rest of `A [ rule U rule ]` or `E [ rule U rule ]`, after the letter at p
-abbrev pub UntilDone : List (List ℕ) → Parts → Parts → ℕ → Kind → Words → Words → Result (Unit {0}) GrammarFault → Type 0
-UntilDone names a b p k r t x = (q : form.Path) → part_of k 0 ≡ form.on_two (form.until q) → AtomDone names a b p (word.path q) r t x
+abbrev pub UntilDone : Reader → Reader → ℕ → Kind → Result (Unit {0}) GrammarFault → Type 0
+UntilDone r t p k x = (q : form.Path) → part_of k 0 ≡ form.on_two (form.until q) → AtomDone r t p (word.path q) x

@@ -1,5 +1,5 @@
 -- The number and the place of a refusal.
-use Rattle.std.specs.Prelude.{ℕ}
+use Rattle.std.specs.Prelude.{ℕ, List, ◌++◌, codes, decimal}
 use Rattle.grammar.specs.Answering.{Answer}
 use Rattle.grammar.specs.Answering.Answer.{fault}
 use Rattle.words.specs.declared.faults.WordFault.TheVariants.{Strange, Long}
@@ -23,6 +23,10 @@ place_of (Grammar (Word (Strange p))) = p
 place_of (Grammar (Word (Long p))) = p
 place_of (Grammar (Stray p)) = p
 place_of (Parts n) = n
+
+-- a refusal as it is shown: its number, and after ` at ` its place
+abbrev pub fault_text : RuleFault → List ℕ
+fault_text e = decimal (number_of e) ++ (codes " at " ++ decimal (place_of e))
 
 -- a refusal as the answer of a reading
 abbrev pub refused : RuleFault → Answer

@@ -7,12 +7,13 @@ use Rattle.grammar.specs.Answering.{Halt, halt}
 use Rattle.grammar.specs.Reading.{read_of}
 use Rattle.grammar.specs.Answering.Answer.{the_rule}
 use Rattle.grammar.specs.Answering.Halt.{at_end, at_slip}
-use Rattle.reading.specs.Holding.{first_parts}
+use Rattle.fixed_vec.specs.declared.FixedVec.{FixedVec}
+use Rattle.reading.specs.Holding.{parts_in}
 use Rattle.reading.specs.Refusing.{refused}
 use Rattle.words.specs.declared.faults.WordFault.{WordFault}
 use Rattle.words.specs.declared.faults.WordFault.TheVariants.{Strange, Long}
 use Rattle.reading.specs.declared.faults.RuleFault.{RuleFault}
-use Rattle.reading.specs.declared.parts.Parts.{Parts}
+use Rattle.reading.specs.declared.part.Part.{Part}
 
 abbrev pub slip_halt : WordFault → Halt
 slip_halt (Strange p) = at_slip word.no_word p
@@ -23,13 +24,7 @@ abbrev pub Passed : List ℕ → Result (Unit {0}) WordFault → Type 0
 Passed text (Ok u) = halt (scan.from text 0) ≡ at_end (length text)
 Passed text (Err e) = halt (scan.from text 0) ≡ slip_halt e
 
--- the parts of this form are held, and no more
-pub record Stores (s : Parts) (f : form.Form ℕ) : Type 0 where
-  pub full : length s.parts ≡ 64
-  pub counted : s.count ≡ form.size f
-  pub listed : first_parts s.parts s.count ≡ form.parts f
-
 -- the parts of the rule that the text stands for, or the refusal
-abbrev pub PartsRead : List (List ℕ) → List ℕ → Result Parts RuleFault → Type 0
-PartsRead names text (Ok s) = (f : form.Form ℕ) × (read_of names text ≡ the_rule f) × Stores s f
+abbrev pub PartsRead : List (List ℕ) → List ℕ → Result (FixedVec Part 64) RuleFault → Type 0
+PartsRead names text (Ok v) = (f : form.Form ℕ) × ((read_of names text ≡ the_rule f) × (parts_in v ≡ form.parts f))
 PartsRead names text (Err e) = read_of names text ≡ refused e

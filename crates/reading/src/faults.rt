@@ -1,21 +1,23 @@
 // Why a rule is not read. Each fault has a number and a place.
-ghost use Rattle.std.specs.Prelude.{◌≡◌};
-ghost use Rattle.reading.specs.Refusing.{number_of, place_of};
+ghost use Rattle.std.specs.Prelude.{◌≡◌, Some};
+ghost use Rattle.reading.specs.Refusing.{fault_text, number_of, place_of};
 ghost use Rattle.reading.specs.declared.faults.GrammarFault.TheVariants.{Word as of_word};
 ghost use Rattle.reading.specs.declared.faults.RuleFault.TheVariants.{Grammar as of_grammar, Names as of_names};
 
 use names::NamesFault;
+use std::error::Error;
+use std::fmt;
 use words::WordFault;
 
 // Why a text is none of the grammar: a fault of its words, or the place with which no text of the grammar goes on.
-#[derive(Clone, Copy)]
+#[derive(Clone, Copy, Debug, PartialEq, Eq, Hash)]
 pub enum GrammarFault {
     Word(WordFault),
     Stray(usize),
 }
 
 // Why a rule is not read: its names, a text over 1,024 bytes, its grammar, or over 64 parts in a text of that length.
-#[derive(Clone, Copy)]
+#[derive(Clone, Copy, Debug, PartialEq, Eq, Hash)]
 pub enum RuleFault {
     Names(NamesFault),
     Text,
@@ -75,12 +77,25 @@ impl RuleFault {
     {
         match self {
             RuleFault::Names(NamesFault::Many) => 32,
-            RuleFault::Names(NamesFault::Entry(entry)) => entry,
             RuleFault::Text => 1024,
-            RuleFault::Grammar(GrammarFault::Word(WordFault::Strange(place))) => place,
-            RuleFault::Grammar(GrammarFault::Word(WordFault::Long(place))) => place,
-            RuleFault::Grammar(GrammarFault::Stray(place)) => place,
-            RuleFault::Parts(length) => length,
+            RuleFault::Names(NamesFault::Entry(place))
+            | RuleFault::Grammar(GrammarFault::Word(WordFault::Strange(place)))
+            | RuleFault::Grammar(GrammarFault::Word(WordFault::Long(place)))
+            | RuleFault::Grammar(GrammarFault::Stray(place))
+            | RuleFault::Parts(place) => place,
         }
     }
 }
+
+// A fault shows as its number and its place: `3 at 5`.
+impl fmt::Display for RuleFault {
+    ghost output = { λ fault. Some (fault_text fault) };
+
+    fn fmt<W: fmt::Write>(&self, f: &mut fmt::Formatter<W>) -> fmt::Result {
+        let number = self.number();
+        let place = self.place();
+        write!(f, "{number} at {place}")
+    }
+}
+
+impl Error for RuleFault {}

@@ -1,7 +1,6 @@
 // The levels of the grammar. Each reads one phrase, and its contract says what comes of the text whatever stands around it.
 ghost use Rattle.std.specs.Prelude.{◌≡◌, Some as «some», MatchBool, ◌≢◌};
-ghost use Rattle.reading.specs.Levels.{AndDone, AtomDone, Expected, Made, OrDone, RuleDone, Taken, UnaryDone, UntilDone, due_word, strength};
-ghost use Rattle.names.specs.Lists.{names_of};
+ghost use Rattle.reading.specs.Levels.{AndDone, AtomDone, Expected, Made, Next, OrDone, RuleDone, Taken, UnaryDone, UntilDone, strength};
 ghost use Rattle.words.specs.Wording.{wording};
 ghost use Rattle.words.specs.declared.kinds.Binding.TheVariants.{Unary as unaries};
 
@@ -9,201 +8,159 @@ use crate::faults::GrammarFault;
 use crate::part::Part;
 use crate::parts::{Parts, named};
 use names::Names;
-use words::{Binding, Kind, Word, WordFault, Words};
+use words::{Binding, Kind, Seen, Word, WordFault, Words};
 
-// A word that has to stand at its place.
-#[derive(Clone, Copy)]
-pub enum Due {
-    Close,
-    Square,
-    Until,
-    Unsquare,
+// A text that is being read by a name list: its words, and the parts so far.
+#[derive(Drop)]
+pub struct Reader<'a> {
+    pub words: Words<'a>,
+    pub names: &'a Names,
+    pub parts: Parts,
 }
 
 // The kind that the word makes, if it binds so strongly.
 fn kind_at(word: Word<'_>, binding: Binding) -> Option<Kind>
     ensures { Made binding (wording word.entry) result }
 {
-    match word.kind() {
-        Some(kind) => {
-            if kind.binding() == binding {
-                Some(kind)
-            } else {
-                None
-            }
-        }
-        None => None,
-    }
+    word.kind().filter(|kind| kind.binding() == binding)
 }
 
 // Takes the next word if it binds so strongly.
 fn takes(words: &mut Words<'_>, binding: Binding) -> Result<Option<Kind>, WordFault>
     ensures { Taken binding words.old words.new result }
 {
-    match words.look()? {
-        Some(seen) => {
-            let kind = kind_at(seen.word, binding);
-            if kind.is_some() {
-                words.place = seen.after;
-            }
-            Ok(kind)
-        }
-        None => Ok(None),
+    let Some(seen) = words.look()? else {
+        return Ok(None);
+    };
+    let kind = kind_at(seen.word, binding);
+    if kind.is_some() {
+        words.place = seen.after;
     }
+    Ok(kind)
 }
 
-// Whether the word is the one that is due.
-fn is_due(word: Word<'_>, due: Due) -> bool
-    ensures { MatchBool result (wording word.entry ≡ due_word due) (wording word.entry ≢ due_word due) }
+// Takes the next word, which has to be there.
+fn take<'a>(words: &mut Words<'a>) -> Result<Seen<'a>, GrammarFault>
+    ensures { Next words.old words.new result }
 {
-    match due {
-        Due::Close => match word {
-            Word::Close => true,
-            _ => false,
-        },
-        Due::Square => match word {
-            Word::Square => true,
-            _ => false,
-        },
-        Due::Until => match word {
-            Word::U => true,
-            _ => false,
-        },
-        Due::Unsquare => match word {
-            Word::Unsquare => true,
-            _ => false,
-        },
-    }
+    let Some(seen) = words.look()? else {
+        return Err(GrammarFault::Stray(words.text.len()));
+    };
+    words.place = seen.after;
+    Ok(seen)
+}
+
+// Whether the word is the one that is due. In `expect` itself the search stops at its limits on what `==` says of words.
+fn is_due(word: Word<'_>, due: Word<'_>) -> bool
+    ensures { MatchBool result (wording word.entry ≡ wording due.entry) (wording word.entry ≢ wording due.entry) }
+{
+    word == due
 }
 
 // Takes the word that is due, or says where it is missing.
-fn expect(words: &mut Words<'_>, due: Due) -> Result<(), GrammarFault>
-    ensures { Expected due words.old words.new result }
+fn expect(words: &mut Words<'_>, due: Word<'_>) -> Result<(), GrammarFault>
+    ensures { Expected (wording due.entry) words.old words.new result }
 {
-    match words.look()? {
-        Some(seen) => {
-            if is_due(seen.word, due) {
-                words.place = seen.after;
+    let seen = take(words)?;
+    if !is_due(seen.word, due) {
+        return Err(GrammarFault::Stray(seen.at));
+    }
+    Ok(())
+}
+
+impl Reader<'_> {
+    #[cycle(levels)]
+    pub fn read_rule(&mut self) -> Result<(), GrammarFault>
+        ensures { RuleDone self.old self.new result }
+    {
+        self.read_or()?;
+        if let Some(kind) = takes(&mut self.words, Binding::Implies)? {
+            self.read_rule()?;
+            self.parts.push(Part::of(kind));
+        }
+        Ok(())
+    }
+
+    // This level and the next stay two functions. One over the binding proves too, but is as long, chooses the level below
+    // by a switch, and rules out the other bindings by a `requires`. One that takes the level below as a closure would
+    // want a number beside it, for the measure of the cycle alone.
+    #[cycle(levels)]
+    fn read_or(&mut self) -> Result<(), GrammarFault>
+        ensures { OrDone self.old self.new result }
+    {
+        self.read_and()?;
+        while let Some(kind) = takes(&mut self.words, Binding::Or)? {
+            self.read_and()?;
+            self.parts.push(Part::of(kind));
+        }
+        Ok(())
+    }
+
+    #[cycle(levels)]
+    fn read_and(&mut self) -> Result<(), GrammarFault>
+        ensures { AndDone self.old self.new result }
+    {
+        self.read_unary()?;
+        while let Some(kind) = takes(&mut self.words, Binding::And)? {
+            self.read_unary()?;
+            self.parts.push(Part::of(kind));
+        }
+        Ok(())
+    }
+
+    #[cycle(levels)]
+    fn read_unary(&mut self) -> Result<(), GrammarFault>
+        ensures { UnaryDone self.old self.new result }
+    {
+        let seen = take(&mut self.words)?;
+        let Some(kind) = kind_at(seen.word, Binding::Unary) else {
+            return self.read_atom(seen.at, seen.word);
+        };
+        self.read_unary()?;
+        self.parts.push(Part::of(kind));
+        Ok(())
+    }
+
+    // The atom that the word at `at`, just taken, begins.
+    #[cycle(levels)]
+    fn read_atom(&mut self, at: usize, word: Word<'_>) -> Result<(), GrammarFault>
+        requires { strength (wording word) ≢ «some» unaries }
+        ensures { AtomDone self.old self.new at (wording word.entry) result }
+    {
+        match word {
+            Word::True => {
+                self.parts.push(Part::of(Kind::True));
                 Ok(())
-            } else {
-                Err(GrammarFault::Stray(seen.at))
             }
-        }
-        None => Err(GrammarFault::Stray(words.text.len())),
-    }
-}
-
-#[cycle(levels)]
-pub fn read_rule(
-    words: &mut Words<'_>,
-    names: &Names,
-    parts: &mut Parts,
-) -> Result<(), GrammarFault>
-    ensures { RuleDone (names_of names.now) parts.old parts.new words.old words.new result }
-{
-    read_or(words, names, parts)?;
-    if let Some(kind) = takes(words, Binding::Implies)? {
-        read_rule(words, names, parts)?;
-        parts.push(Part::of(kind));
-    }
-    Ok(())
-}
-
-#[cycle(levels)]
-fn read_or(words: &mut Words<'_>, names: &Names, parts: &mut Parts) -> Result<(), GrammarFault>
-    ensures { OrDone (names_of names.now) parts.old parts.new words.old words.new result }
-{
-    read_and(words, names, parts)?;
-    while let Some(kind) = takes(words, Binding::Or)? {
-        read_and(words, names, parts)?;
-        parts.push(Part::of(kind));
-    }
-    Ok(())
-}
-
-#[cycle(levels)]
-fn read_and(words: &mut Words<'_>, names: &Names, parts: &mut Parts) -> Result<(), GrammarFault>
-    ensures { AndDone (names_of names.now) parts.old parts.new words.old words.new result }
-{
-    read_unary(words, names, parts)?;
-    while let Some(kind) = takes(words, Binding::And)? {
-        read_unary(words, names, parts)?;
-        parts.push(Part::of(kind));
-    }
-    Ok(())
-}
-
-#[cycle(levels)]
-fn read_unary(words: &mut Words<'_>, names: &Names, parts: &mut Parts) -> Result<(), GrammarFault>
-    ensures { UnaryDone (names_of names.now) parts.old parts.new words.old words.new result }
-{
-    match words.look()? {
-        Some(seen) => {
-            words.place = seen.after;
-            match kind_at(seen.word, Binding::Unary) {
-                Some(kind) => {
-                    read_unary(words, names, parts)?;
-                    parts.push(Part::of(kind));
-                    Ok(())
-                }
-                None => read_atom(words, names, parts, seen.at, seen.word),
+            Word::False => {
+                self.parts.push(Part::of(Kind::False));
+                Ok(())
             }
+            Word::Name(name) => {
+                self.parts.push(named(self.names, name));
+                Ok(())
+            }
+            Word::Open => {
+                self.read_rule()?;
+                expect(&mut self.words, Word::Close)
+            }
+            Word::A => self.read_until(at, Kind::Au),
+            Word::E => self.read_until(at, Kind::Eu),
+            _ => Err(GrammarFault::Stray(at)),
         }
-        None => Err(GrammarFault::Stray(words.text.len())),
     }
-}
 
-// The atom that the word at `at`, just taken, begins.
-#[cycle(levels)]
-fn read_atom(
-    words: &mut Words<'_>,
-    names: &Names,
-    parts: &mut Parts,
-    at: usize,
-    word: Word<'_>,
-) -> Result<(), GrammarFault>
-    requires { strength (wording word) ≢ «some» unaries }
-    ensures { AtomDone (names_of names.now) parts.old parts.new at (wording word.entry) words.old words.new result }
-{
-    match word {
-        Word::True => {
-            parts.push(Part::of(Kind::True));
-            Ok(())
-        }
-        Word::False => {
-            parts.push(Part::of(Kind::False));
-            Ok(())
-        }
-        Word::Name(name) => {
-            parts.push(named(names, name));
-            Ok(())
-        }
-        Word::Open => {
-            read_rule(words, names, parts)?;
-            expect(words, Due::Close)
-        }
-        Word::A => read_until(words, names, parts, at, Kind::Au),
-        Word::E => read_until(words, names, parts, at, Kind::Eu),
-        _ => Err(GrammarFault::Stray(at)),
+    // What follows the letter `A` or `E` at `at`, just taken.
+    #[cycle(levels)]
+    fn read_until(&mut self, at: usize, kind: Kind) -> Result<(), GrammarFault>
+        ensures { UntilDone self.old self.new at kind result }
+    {
+        expect(&mut self.words, Word::Square)?;
+        self.read_rule()?;
+        expect(&mut self.words, Word::U)?;
+        self.read_rule()?;
+        expect(&mut self.words, Word::Unsquare)?;
+        self.parts.push(Part::of(kind));
+        Ok(())
     }
-}
-
-// What follows the letter `A` or `E`, just taken.
-#[cycle(levels)]
-fn read_until(
-    words: &mut Words<'_>,
-    names: &Names,
-    parts: &mut Parts,
-    at: usize,
-    kind: Kind,
-) -> Result<(), GrammarFault>
-    ensures { UntilDone (names_of names.now) parts.old parts.new at kind words.old words.new result }
-{
-    expect(words, Due::Square)?;
-    read_rule(words, names, parts)?;
-    expect(words, Due::Until)?;
-    read_rule(words, names, parts)?;
-    expect(words, Due::Unsquare)?;
-    parts.push(Part::of(kind));
-    Ok(())
 }

@@ -6,8 +6,9 @@ ghost use Rattle.words.specs.Kinds.{part_of};
 
 use words::Kind;
 
-// A part: its kind, and for a label its number.
-#[derive(Clone, Copy)]
+// A part: its kind, and for a label its number. The number stands beside the kind and not in it: a kind with a number
+// would be no index into the one table of kinds, and `of(Kind::Label)` is a part, the label 0.
+#[derive(Clone, Copy, Debug, PartialEq, Eq, Hash)]
 pub struct Part {
     pub kind: Kind,
     // 0 in other kinds than a label's, and not read there.
@@ -36,9 +37,6 @@ impl Part {
     pub fn label(self) -> Option<u8>
         ensures { result ≡ label_of (parting self) }
     {
-        match self.kind {
-            Kind::Label => Some(self.label),
-            _ => None,
-        }
+        (self.kind == Kind::Label).then_some(self.label)
     }
 }

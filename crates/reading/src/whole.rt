@@ -3,14 +3,17 @@ ghost use Rattle.names.specs.Lists.{names_of};
 ghost use Rattle.reading.specs.Whole.{PartsRead, Passed};
 
 use crate::faults::{GrammarFault, RuleFault};
-use crate::levels::read_rule;
+use crate::levels::Reader;
+use crate::part::Part;
 use crate::parts::Parts;
+use fixed_vec::FixedVec;
 use names::Names;
 use words::{WordFault, Words};
 
-// The longest text in bytes, and the most parts of a rule.
+// The longest text in bytes.
 const LONGEST_TEXT: usize = 1024;
 
+// The most parts of a rule.
 const MOST_PARTS: usize = 64;
 
 // Looks at every word of the text: a fault of words goes before one of the grammar, wherever it stands.
@@ -25,24 +28,24 @@ fn pass(text: &[u8]) -> Result<(), WordFault>
 }
 
 // The parts of the rule that the text stands for.
-pub fn read_parts(names: &Names, text: &[u8]) -> Result<Parts, RuleFault>
+pub fn read_parts(names: &Names, text: &[u8]) -> Result<FixedVec<Part, 64>, RuleFault>
     ensures { PartsRead (names_of names.now) text.now result }
 {
     if text.len() > LONGEST_TEXT {
         return Err(RuleFault::Text);
     }
     pass(text)?;
-    let mut words = Words::new(text);
-    let mut parts = Parts::none();
-    read_rule(&mut words, names, &mut parts)?;
-    match words.look()? {
-        Some(seen) => Err(RuleFault::Grammar(GrammarFault::Stray(seen.at))),
-        None => {
-            if parts.count > MOST_PARTS {
-                Err(RuleFault::Parts(text.len()))
-            } else {
-                Ok(parts)
-            }
-        }
+    let mut reader = Reader {
+        words: Words::new(text),
+        names,
+        parts: Parts::none(),
+    };
+    reader.read_rule()?;
+    if let Some(seen) = reader.words.look()? {
+        return Err(RuleFault::Grammar(GrammarFault::Stray(seen.at)));
     }
+    if reader.parts.count > MOST_PARTS {
+        return Err(RuleFault::Parts(text.len()));
+    }
+    Ok(reader.parts.kept)
 }

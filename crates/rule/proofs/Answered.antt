@@ -1,6 +1,6 @@
 -- From a name list and the parts that were read by it to the answer, and to what the rule's type keeps.
-use Rattle.std.proofs.Common.{◌≡◌, ℕ, ◌≤◌, true, List, length, Err, Result, sym, ap, ◌∙◌, subst, arith}
-use Rattle.grammar.specs.Forms.{Form, size}
+use Rattle.std.proofs.Common.{◌≡◌, ℕ, true, List, length, Err, Result, sym, ap, ◌∙◌, subst}
+use Rattle.grammar.specs.Forms.{Form, parts}
 use Rattle.grammar.specs.Shape.{form_of, is_tree, labelled}
 use Rattle.grammar.specs.Answering.{Answer}
 use Rattle.grammar.specs.Reading.{read_of}
@@ -8,19 +8,18 @@ use Rattle.grammar.specs.Answering.Answer.{the_rule}
 use Rattle.grammar.specs.Answering.{Answering}
 use Rattle.grammar.specs.Reading.{answer_of, first_list, wrong_in}
 use Rattle.grammar.specs.Reading.Verdict.{right, wrong}
-use Rattle.grammar.specs.Names.{Known, Names}
 use Rattle.grammar.proofs.Listings.{answers_all, only_all}
 use Rattle.grammar.proofs.Rereading.{reread}
 use Rattle.grammar.proofs.Trees.{known_labelled, parts_form, parts_tree}
 use Rattle.rule.specs.Answers.{Keeps, answered}
-use Rattle.reading.specs.Holding.{first_parts}
+use Rattle.reading.specs.Holding.{parts_in}
 use Rattle.names.specs.Lists.{entry_of}
 use Rattle.reading.specs.Refusing.{refused}
-use Rattle.reading.specs.Whole.{Stores}
 use Rattle.names.specs.declared.faults.NamesFault.{NamesFault}
 use Rattle.reading.specs.declared.faults.RuleFault.{RuleFault}
 use Rattle.reading.specs.declared.faults.RuleFault.TheVariants as faults
-use Rattle.reading.specs.declared.parts.Parts.{Parts}
+use Rattle.reading.specs.declared.part.Part.{Part}
+use Rattle.fixed_vec.specs.declared.FixedVec.{FixedVec}
 use Rattle.rule.specs.declared.rule.Rule.{Rule}
 
 -- the answer that is the one of the definition
@@ -49,26 +48,17 @@ pub text_fault : (names kept : List (List ℕ)) (text : List ℕ) (e : RuleFault
 text_fault names kept text e g k h = ap (λ v. first_list v (read_of names text)) g ∙ ap (λ n. read_of n text) (sym k) ∙ h
 
 -- the parts of an accepted text make a rule
-module _ (names kept : List (List ℕ)) (text : List ℕ) (s : Parts) (g : wrong_in names ≡ right) (k : kept ≡ names) (h : (f : Form ℕ) × (read_of kept text ≡ the_rule f) × Stores s f) where
+module _ (names kept : List (List ℕ)) (text : List ℕ) (v : FixedVec Part 64) (g : wrong_in names ≡ right) (k : kept ≡ names) (h : (f : Form ℕ) × ((read_of kept text ≡ the_rule f) × (parts_in v ≡ parts f))) where
   pub parts_answer : answer_of names text ≡ the_rule h.0
-  parts_answer = ap (λ v. first_list v (read_of names text)) g ∙ ap (λ n. read_of n text) (sym k) ∙ h.1
+  parts_answer = ap (λ x. first_list x (read_of names text)) g ∙ ap (λ n. read_of n text) (sym k) ∙ h.1.0
 
-  sound : Names names × Known names h.0 × (size h.0 ≤ 64)
-  sound = (reread names text h.0 parts_answer).0
+  pub parts_shape : is_tree (parts_in v) ≡ true
+  parts_shape = ap is_tree h.1.1 ∙ parts_tree h.0
 
-  pub parts_full : length s.parts ≡ 64
-  parts_full = h.2.full
-
-  pub parts_few : s.count ≤ 64
-  parts_few = omega (arith, h.2.counted, sound.2)
-
-  pub parts_shape : is_tree (first_parts s.parts s.count) ≡ true
-  parts_shape = ap is_tree h.2.listed ∙ parts_tree h.0
-
-  pub parts_known : labelled (length kept) (first_parts s.parts s.count) ≡ true
+  pub parts_known : labelled (length kept) (parts_in v) ≡ true
   parts_known =
-      ap (λ n. labelled (length n) (first_parts s.parts s.count)) k ∙ ap (labelled (length names)) h.2.listed
-      ∙ known_labelled names h.0 sound.1
+      (λ i. labelled (length (k i)) (h.1.1 i))
+      ∙ known_labelled names h.0 (reread names text h.0 parts_answer).0.1
 
-  pub parts_rule : the_rule (form_of (first_parts s.parts s.count)) ≡ answer_of names text
-  parts_rule = ap the_rule (ap form_of h.2.listed ∙ parts_form h.0) ∙ sym parts_answer
+  pub parts_rule : the_rule (form_of (parts_in v)) ≡ answer_of names text
+  parts_rule = ap the_rule (ap form_of h.1.1 ∙ parts_form h.0) ∙ sym parts_answer

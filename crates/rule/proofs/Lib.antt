@@ -1,7 +1,7 @@
 pub mod Rules
-pub mod Turns
 pub mod Answered
-pub mod Backs
+pub mod Turns
+pub mod Standings
 pub mod Below
 pub mod Toward
 pub mod Printings

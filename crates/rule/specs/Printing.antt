@@ -1,12 +1,13 @@
--- Writing a rule into a buffer from its end, part by part.
-use Rattle.std.specs.Prelude.{◌≡◌, ℕ, ◌+◌, ◌≤◌, Bool, List, [], ◌++◌, length, take, drop, slice_index_or}
-use Rattle.grammar.specs.Forms.{Form, Part, size}
+-- Writing a rule into a line, part by part.
+use Rattle.std.specs.Prelude.{◌≡◌, ℕ, ◌+◌, ◌<◌, Bool, List, [], ◌++◌, length, OnOk, OnErr, Result, slice_index_or}
+use Rattle.grammar.specs.Forms.{Form, Part}
 use Rattle.grammar.specs.Forms.Part.{always, never, known, on_one, on_two}
-use Rattle.grammar.specs.Numbering.{Inside}
 use Rattle.grammar.specs.Signs.{Sign}
 use Rattle.grammar.specs.Striking.{settled, struck_from}
 use Rattle.grammar.specs.Writing.{written}
 use Rattle.words.specs.Kinds.{before}
+use Rattle.rule.specs.Walks.{Stands}
+use Rattle.fixed_vec.specs.declared.Full.{Full}
 
 -- the constant that a struck part of that sign is written as
 abbrev pub constant_for : Sign → List ℕ
@@ -20,22 +21,11 @@ word_for names (known l) = slice_index_or names l []
 word_for names (on_one o) = before (on_one o)
 word_for names (on_two o) = before (on_two o)
 
--- the bytes stand in the buffer from s up to e, and the rest is as it was
-pub record Placed (out exit : List ℕ) (s : ℕ) (bytes : List ℕ) (e : ℕ) : Type 0 where
-  pub bound : s + length bytes ≡ e
-  pub within : e ≤ length out
-  pub is : exit ≡ take s out ++ (bytes ++ drop e out)
+-- the text of a part, with its struck parts as their constants
+abbrev pub part_text : List (List ℕ) → (ℕ → Bool) → {f : Form ℕ} {i : ℕ} {p : Sign} → Stands f i p → List ℕ
+part_text names marks {p = p} s = written names (struck_from marks s.first p s.form)
 
--- the form of part i, whose sign is p, to write with its struck parts so that it ends at e in a buffer of that room
-pub record Job (f : Form ℕ) (names : List (List ℕ)) (marks : ℕ → Bool) (p : Sign) (i e room : ℕ) : Type 0 where
-  pub first : ℕ
-  pub form : Form ℕ
-  pub inside : Inside f first p form
-  pub ends : first + size form ≡ i + 1
-  pub fits : length (written names (struck_from marks first p form)) ≤ e
-  pub roomy : e ≤ room
-
--- it was written, from r on
-abbrev pub Printed : Form ℕ → List (List ℕ) → (ℕ → Bool) → Sign → ℕ → ℕ → List ℕ → List ℕ → ℕ → Type 0
-Printed f names marks p i e out exit r =
-    (j : Job f names marks p i e (length out)) → Placed out exit r (written names (struck_from marks j.first p j.form)) e
+-- the text was added to a line, or a line of 1,024 bytes is too short for it
+pub record Adds (text old new : List ℕ) (r : Result (Unit {0}) Full) : Type 0 where
+  pub ok : OnOk r (new ≡ old ++ text)
+  pub full : OnErr r (1024 < length old + length text)

@@ -6,21 +6,17 @@ use Rattle.grammar.specs.Striking.{struck}
 use Rattle.grammar.specs.Writing.{written}
 use Rattle.grammar.specs.Signs as signs
 use Rattle.grammar.specs.Numbering as numbers
-use Rattle.reading.specs.Holding.{first_parts}
+use Rattle.reading.specs.Holding.{parts_in}
 use Rattle.names.specs.Lists.{names_of}
 use Rattle.rule.specs.declared.rule.Rule.{Rule}
 
 -- the tree of a rule
 abbrev pub form_in : Rule → form.Form ℕ
-form_in r = form_of (first_parts r.parts r.count)
+form_in r = form_of (parts_in r.parts)
 
 -- the names of a rule
 abbrev pub names_in : Rule → List (List ℕ)
 names_in r = names_of r.names
-
-abbrev pub told : {A B : Type 0} → (A → B) → Option A → Option B
-told f (Some x) = Some (f x)
-told f None = None
 
 -- what is said of part i, where the form has one
 abbrev pub of_part : {B : Type 0} → form.Form ℕ → ℕ → B → Option B

@@ -1,17 +1,18 @@
 // The sign of a part.
 ghost use Rattle.std.specs.Prelude.{◌≡◌, if◌then◌else◌};
 ghost use Rattle.grammar.specs.Signs.{flip};
-ghost use Rattle.rule.specs.Signing.{signing};
 
-// Negative under an odd number of `!` and left sides of `->`, else positive.
-#[derive(Clone, Copy)]
+/// Negative under an odd number of `!` and left sides of `->`, else positive.
+#[derive(Clone, Copy, Debug, PartialEq, Eq, Hash)]
 pub enum Sign {
     Plus,
     Minus,
 }
 
 impl Sign {
-    // The sign, or the other one.
+    ghost use Rattle.rule.specs.Signing.{signing};
+
+    /// The sign, or the other one.
     pub fn flipped(self, flips: bool) -> Sign
         ensures { signing result ≡ (if flips then flip (signing self) else signing self) }
     {

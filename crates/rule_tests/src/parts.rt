@@ -10,32 +10,14 @@ mod tests {
         Rule::read(&[b"held", b"sold"], text).ok()
     }
 
-    // The operands of a part, the left one first; 99 stands for none.
-    fn operands(rule: &Rule, part: usize) -> (usize, usize) {
-        match rule.operands(part) {
-            Some(Operands::Two(left, right)) => (left, right),
-            Some(Operands::One(inner)) => (99, inner),
-            Some(Operands::None) => (99, 99),
-            None => (0, 0),
-        }
-    }
-
-    // `+`, `-`, or a space where there is no such part.
-    fn sign(rule: &Rule, part: usize) -> char {
-        match rule.sign(part) {
-            Some(Sign::Plus) => '+',
-            Some(Sign::Minus) => '-',
-            None => ' ',
-        }
-    }
-
     #[test]
     fn fresh(rt: HostRuntime) {
         let rule = Rule::fresh();
         assert_eq!(rt; rule.len(), 1);
         assert!(rt; rule.name(0).is_none());
-        assert_eq!(rt; operands(&rule, 0), (99, 99));
-        assert_eq!(rt; (sign(&rule, 0), sign(&rule, 1)), ('+', ' '));
+        assert_eq!(rt; rule.operands(0), Some(Operands::None));
+        assert_eq!(rt; rule.sign(0), Some(Sign::Plus));
+        assert_eq!(rt; rule.sign(1), None);
     }
 
     #[test]
@@ -45,10 +27,10 @@ mod tests {
             return Ok(());
         };
         assert_eq!(rt; rule.len(), 5);
-        assert_eq!(rt; operands(&rule, 3), (1, 2));
-        assert_eq!(rt; operands(&rule, 4), (0, 3));
-        assert_eq!(rt; operands(&rule, 2), (99, 99));
-        assert_eq!(rt; operands(&rule, 5), (0, 0), "no such part");
+        assert_eq!(rt; rule.operands(3), Some(Operands::Two(1, 2)));
+        assert_eq!(rt; rule.operands(4), Some(Operands::Two(0, 3)));
+        assert_eq!(rt; rule.operands(2), Some(Operands::None));
+        assert_eq!(rt; rule.operands(5), None, "no such part");
         Ok(())
     }
 
@@ -58,9 +40,9 @@ mod tests {
             assert!(rt; false);
             return Ok(());
         };
-        assert_eq!(rt; operands(&rule, 2), (0, 1));
-        assert_eq!(rt; operands(&rule, 5), (3, 4));
-        assert_eq!(rt; operands(&rule, 6), (2, 5));
+        assert_eq!(rt; rule.operands(2), Some(Operands::Two(0, 1)));
+        assert_eq!(rt; rule.operands(5), Some(Operands::Two(3, 4)));
+        assert_eq!(rt; rule.operands(6), Some(Operands::Two(2, 5)));
         Ok(())
     }
 
@@ -74,7 +56,7 @@ mod tests {
             assert!(rt; false);
             return Ok(());
         };
-        assert_eq!(rt; paid.kind as u8, Kind::False as u8);
+        assert_eq!(rt; paid.kind, Kind::False);
         assert_eq!(rt; sold.label(), Some(1));
         assert!(rt; paid.label().is_none());
         assert!(rt; rule.part(3).is_none());
@@ -87,34 +69,23 @@ mod tests {
             assert!(rt; false);
             return Ok(());
         };
-        assert_eq!(rt;
-            (
-                sign(&rule, 0),
-                sign(&rule, 1),
-                sign(&rule, 2),
-                sign(&rule, 3),
-                sign(&rule, 4),
-            ),
-            ('-', '+', '+', '+', '+')
-        );
+        assert_eq!(rt; rule.sign(0), Some(Sign::Minus));
+        assert_eq!(rt; rule.sign(1), Some(Sign::Plus));
+        assert_eq!(rt; rule.sign(2), Some(Sign::Plus));
+        assert_eq!(rt; rule.sign(3), Some(Sign::Plus));
+        assert_eq!(rt; rule.sign(4), Some(Sign::Plus));
         let Some(turned) = read(b"!(held -> !sold) -> held") else {
             assert!(rt; false);
             return Ok(());
         };
-        assert_eq!(rt;
-            (
-                sign(&turned, 0),
-                sign(&turned, 1),
-                sign(&turned, 2),
-                sign(&turned, 3),
-                sign(&turned, 4),
-            ),
-            ('-', '-', '+', '+', '-')
-        );
-        assert_eq!(rt;
-            (sign(&turned, 5), sign(&turned, 6), sign(&turned, 7)),
-            ('+', '+', ' ')
-        );
+        assert_eq!(rt; turned.sign(0), Some(Sign::Minus));
+        assert_eq!(rt; turned.sign(1), Some(Sign::Minus));
+        assert_eq!(rt; turned.sign(2), Some(Sign::Plus));
+        assert_eq!(rt; turned.sign(3), Some(Sign::Plus));
+        assert_eq!(rt; turned.sign(4), Some(Sign::Minus));
+        assert_eq!(rt; turned.sign(5), Some(Sign::Plus));
+        assert_eq!(rt; turned.sign(6), Some(Sign::Plus));
+        assert_eq!(rt; turned.sign(7), None);
         Ok(())
     }
 }

@@ -1,9 +1,9 @@
 -- The tables of the ticket flow, and the row of two seats, mean what is drawn.
-use Rattle.std.proofs.Common.{◌≡◌, ℕ, zero, suc, ◌+◌, ◌<◌, eqb, List, [], ◌∷◌, sym, refl, subst, arith}
-use Rattle.flow.specs.Tables.{table_meaning}
+use Rattle.std.proofs.Common.{◌≡◌, ℕ, zero, suc, ◌+◌, ◌<◌, eqb, sym, refl, subst, arith}
+use Rattle.flow.specs.Tables.{Tables, table_meaning}
 use Rattle.flow.specs.Seats.{row_meaning}
 use Rattle.rulecheck.specs.Examples.{Ticket, TwoSeats}
-use Rattle.rulecheck.specs.Output.{ticket_meaning}
+use Rattle.rulecheck.specs.Output.{ticket_tables, ticket_meaning}
 
 starts : (s : ℕ) → s < 3 → ticket_meaning.start s ≡ eqb s 0
 starts zero h = refl
@@ -25,10 +25,8 @@ labels (suc (suc l)) s g h = absurd (omega arith)
 ticket : Ticket ticket_meaning
 ticket = record { count = refl; free = refl; held = refl; sold = refl; starts = starts; labels = labels }
 
-pub ticket_drawn : (ls ss ms bs : List ℕ) → ls ≡ 0 ∷ 1 ∷ 2 ∷ [] → ss ≡ 1 ∷ 0 ∷ 0 ∷ [] → ms ≡ 1 ∷ 0 ∷ 2 ∷ 2 ∷ [] → bs ≡ 0 ∷ 1 ∷ 3 ∷ 4 ∷ [] → Ticket (table_meaning ls ss ms bs)
-ticket_drawn ls ss ms bs p q r t =
-    let same : table_meaning ls ss ms bs ≡ ticket_meaning = λ i. table_meaning (p i) (q i) (r i) (t i) in
-    subst Ticket (sym same) ticket
+pub ticket_drawn : (t : Tables) → t ≡ ticket_tables → Ticket (table_meaning t)
+ticket_drawn t e = subst (λ (t : Tables). Ticket (table_meaning t)) (sym e) ticket
 
 pub row_drawn : (k : ℕ) → k ≡ 2 → TwoSeats (row_meaning k)
 row_drawn k e =

@@ -9,9 +9,6 @@ ghost use Rattle.rulecheck.specs.Answer.{rule_line, text_in, ticket_names};
 use rule::{Rule, RuleFault};
 use std::alloc::{AllocError, Global};
 
-// Takes the text of every rule.
-const LINE: usize = 1024;
-
 /// The text of a rule: the input, without one line end at its very end.
 pub fn text_in(input: &[u8]) -> &[u8]
     ensures { result.now ≡ text_in input.now }
@@ -35,10 +32,9 @@ fn accepted(heap: Global, rule: &Rule) -> Result<Vec<u8>, AllocError>
     requires { names_in rule.now ≡ ticket_names }
     ensures { IfOk result (λ v. v.items ≡ rule_line (the_rule (form_in rule.now))) }
 {
-    let mut text = [0u8; LINE];
-    let len = rule.write(&mut text);
+    let text = rule.text();
     let mut line = Vec::from_slice(heap, b"RULE ")?;
-    line.extend_from_slice(&text[..len])?;
+    line.extend_from_slice(text.as_slice())?;
     line.push(b'\n')?;
     Ok(line)
 }
@@ -47,8 +43,5 @@ fn accepted(heap: Global, rule: &Rule) -> Result<Vec<u8>, AllocError>
 fn refusal(heap: Global, fault: RuleFault) -> Result<Vec<u8>, AllocError>
     ensures { IfOk result (λ v. v.items ≡ rule_line (refused fault)) }
 {
-    let number = fault.number();
-    let place = fault.place();
-    let line = format!(in heap; "REFUSED {number} at {place}\n")?;
-    Ok(line.into_bytes())
+    Ok(format!(in heap; "REFUSED {fault}\n")?.into_bytes())
 }

@@ -6,7 +6,7 @@ ghost use Rattle.flow.specs.Seats.{row_meaning};
 ghost use Rattle.flow.specs.Tables.{table_meaning};
 ghost use Rattle.rulecheck.specs.Answer.{whole};
 ghost use Rattle.rulecheck.specs.Examples.{Ticket, TwoSeats};
-ghost use Rattle.rulecheck.specs.Output.{page_of, output};
+ghost use Rattle.rulecheck.specs.Output.{ticket_tables, page_of, output};
 
 mod answer;
 
@@ -17,18 +17,11 @@ use std::alloc::{AllocError, Global};
 
 // A ticket: state 0 is free and the start, 1 held, 2 sold; label 0 is `held`, label 1 is `sold`.
 fn ticket() -> TableFlow<'static>
-    ensures labels { result.labels.now ≡ 0 ∷ 1 ∷ 2 ∷ [] }
-    ensures starts { result.starts.now ≡ 1 ∷ 0 ∷ 0 ∷ [] }
-    ensures moves { result.moves.now ≡ 1 ∷ 0 ∷ 2 ∷ 2 ∷ [] }
-    ensures bounds { result.bounds.now ≡ 0 ∷ 1 ∷ 3 ∷ 4 ∷ [] }
-    ensures drawn { Ticket (table_meaning result.labels.now result.starts.now result.moves.now result.bounds.now) }
+    ensures tables { result.tables ≡ ticket_tables }
+    ensures drawn { Ticket (table_meaning result.tables) }
 {
-    let mut flow = TableFlow::fresh();
-    match flow.fill(&[0, 1, 2], &[1, 0, 0], &[1, 0, 2, 2], &[0, 1, 3, 4]) {
-        Ok(()) => flow,
-        // These tables are proved to be accepted.
-        Err(_) => unreachable(),
-    }
+    // These tables are proved to be accepted.
+    TableFlow::new(&[0, 1, 2], &[1, 0, 0], &[1, 0, 2, 2], &[0, 1, 3, 4]).unwrap()
 }
 
 // A row of two seats.
@@ -36,10 +29,7 @@ fn two_seats() -> SeatRow
     ensures seats { result.seats ≡ 2 }
     ensures drawn { TwoSeats (row_meaning result.seats) }
 {
-    match SeatRow::new(2) {
-        Ok(row) => row,
-        Err(_) => unreachable(),
-    }
+    SeatRow::new(2).unwrap()
 }
 
 // Both charts, and the line that counts them. An error stands for want of memory.

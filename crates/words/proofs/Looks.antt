@@ -1,10 +1,16 @@
--- What a byte begins that is neither space, letter nor `-`; and how many bytes a word takes.
-use Rattle.std.proofs.Common.{◌≡◌, ℕ, suc, ◌+◌, ◌-◌, ◌<◌, ◌≤◌, Bool, true, false, cond, eqb, ◌≢◌, List, [], ◌∷◌, length, take, drop, codes, sym, refl, ap, ◌∙◌, arith, length-drop, length-take-le, ne_eqb}
+-- What a byte begins, runs, and how many bytes a word takes.
+use Rattle.std.proofs.Common.{◌≡◌, ℕ, suc, ◌+◌, ◌-◌, ◌<◌, ◌≤◌, Bool, true, false, cond, eqb, ◌≢◌, List, [], ◌∷◌, length, get_or, take, drop, codes, sym, refl, ap, ◌∙◌, arith, length-drop, length-take-le, ne_eqb}
 use Rattle.std.proofs.lemmas.Bool.{and_parts}
 use Rattle.words.specs.Wording.{extent}
 use borrow.Author.Tests.{clash}
-use Rattle.grammar.specs.Scanning.{Front, front, signed}
-use Rattle.grammar.specs.Words.{Word, letter, same, spelled}
+use Rattle.grammar.specs.Scanning.{Front, front, from, signed}
+use Rattle.grammar.specs.Scanning.Front.{word}
+use Rattle.grammar.specs.Words.Stream.{next}
+use Rattle.grammar.proofs.Streams.{seen}
+use Rattle.grammar.specs.Words.{Word, letter, inner, same, spelled}
+use Rattle.grammar.specs.Scanning.{run}
+use Rattle.std.specs.List.{take_while}
+use Rattle.std.proofs.lemmas.List.Sums.{take_while-cons}
 use Rattle.grammar.proofs.Chains.{past}
 
 signed_alone : (b : ℕ) (bs : List ℕ) → b ≢ 45 → signed b bs ≡ signed b []
@@ -19,6 +25,18 @@ same_length [] [] e = refl
 same_length [] (y ∷ ys) e = absurd (clash e)
 same_length (x ∷ xs) [] e = absurd (clash e)
 same_length (x ∷ xs) (y ∷ ys) e = ap suc (same_length xs ys (and_parts (eqb x y) (same xs ys) e).1)
+
+pub other_length : (a b : List ℕ) → length a ≢ length b → same a b ≡ false
+other_length a b h = by (same a b) refl
+  where
+    by : (t : Bool) → same a b ≡ t → same a b ≡ false
+    by true e = absurd (h (same_length a b e))
+    by false e = e
+
+-- a run is the front of the bytes that are inner
+pub run_length : (bs : List ℕ) → length (take_while inner bs) ≡ length (run bs)
+run_length [] = refl
+run_length (b ∷ bs) = let e = run_length bs in simp take_while-cons (elim (inner b) as (λ t. length (cond t (b ∷ take_while inner bs) []) ≡ length (cond t (b ∷ run bs) [])) [ true ↦ ap suc e | false ↦ refl ])
 
 -- one link of the chain of reserved words
 link : (b : Bool) (n r : List ℕ) (w rest : Word) → same n r ≡ b → extent w ≡ length r → extent rest ≡ length n → extent (cond b w rest) ≡ length n
@@ -46,3 +64,7 @@ run-extent text at stop w h n e =
     let long : length (take (stop - at) (drop at text)) ≡ stop - at = length-take-le (stop - at) (drop at text) (simp length-drop (omega arith)) in
     let is : extent w ≡ length (take (stop - at) (drop at text)) = ap extent e ∙ extent-spelled (take (stop - at) (drop at text)) in
     omega arith
+
+-- a word that begins at a byte and takes k bytes more
+pub begins : (text : List ℕ) (at after k : ℕ) (w : Word) → after ≡ at + 1 + k → after ≤ length text → front (get_or text at 0) (drop (suc at) text) ≡ word k w → after ≡ at + extent w → (from text at ≡ next at w (from text after)) × (at < after) × (after ≤ length text) × (after ≡ at + extent w)
+begins text at after k w a l f e = let t = seen text at at after k w refl (omega arith) a l f in (t.0, t.1, t.2, e)

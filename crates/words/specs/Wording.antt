@@ -99,3 +99,8 @@ abbrev pub Looked : List ℕ → ℕ → Result (Option Seen) WordFault → Type
 Looked text p (Ok (Some s)) = (scan.from text p ≡ word.next s.at (wording s.word) (scan.from text s.after)) × (p < s.after) × (s.after ≤ length text) × (s.after ≡ s.at + extent (wording s.word))
 Looked text p (Ok None) = scan.from text p ≡ word.end (length text)
 Looked text p (Err e) = scan.from text p ≡ slipping e
+
+-- the same from a byte that is no space, where a word begins or none can
+abbrev pub Begins : List ℕ → ℕ → Result Seen WordFault → Type 0
+Begins text p (Ok s) = Looked text p (Ok (Some s))
+Begins text p (Err e) = Looked text p (Err e)

@@ -2,7 +2,7 @@
 ghost use Rattle.std.specs.Prelude.{◌≡◌};
 ghost use Rattle.words.specs.Kinds.{after_of, arity_of, before_of, between_of, binding_of, flips_of};
 
-#[derive(Clone, Copy)]
+#[derive(Clone, Copy, Debug, PartialEq, Eq, Hash)]
 pub enum Kind {
     True,
     False,
@@ -22,7 +22,7 @@ pub enum Kind {
 }
 
 // How strongly a kind holds its operands together, the weakest first.
-#[derive(Clone, Copy, PartialEq)]
+#[derive(Clone, Copy, Debug, PartialEq, Eq, Hash)]
 pub enum Binding {
     Implies,
     Or,
@@ -44,145 +44,121 @@ struct KindRow {
     after: &'static [u8],
 }
 
-// A row for each kind, in the order of `Kind`.
+// No operands: what is written of a constant stands before them, of a label nothing.
+const ATOM: KindRow = KindRow {
+    operands: 0,
+    flips: false,
+    binding: Binding::Atom,
+    before: b"",
+    between: b"",
+    after: b"",
+};
+
+// A sign, or a path and a time, before one operand.
+const UNARY: KindRow = KindRow {
+    operands: 1,
+    binding: Binding::Unary,
+    ..ATOM
+};
+
+// A sign between two operands, in parentheses; each row says how it binds.
+const BINARY: KindRow = KindRow {
+    operands: 2,
+    before: b"(",
+    after: b")",
+    ..ATOM
+};
+
+// Two operands in brackets.
+const UNTIL: KindRow = KindRow {
+    operands: 2,
+    between: b" U ",
+    after: b"]",
+    ..ATOM
+};
+
+// A row for each kind, in the order of `Kind`: what is as in the rows above is not said again.
 const KINDS: [KindRow; 15] = [
     // True
     KindRow {
-        operands: 0,
-        flips: false,
-        binding: Binding::Atom,
         before: b"true",
-        between: b"",
-        after: b"",
+        ..ATOM
     },
     // False
     KindRow {
-        operands: 0,
-        flips: false,
-        binding: Binding::Atom,
         before: b"false",
-        between: b"",
-        after: b"",
+        ..ATOM
     },
     // Label
-    KindRow {
-        operands: 0,
-        flips: false,
-        binding: Binding::Atom,
-        before: b"",
-        between: b"",
-        after: b"",
-    },
+    ATOM,
     // Not
     KindRow {
-        operands: 1,
         flips: true,
-        binding: Binding::Unary,
         before: b"!",
-        between: b"",
-        after: b"",
+        ..UNARY
     },
     // And
     KindRow {
-        operands: 2,
-        flips: false,
         binding: Binding::And,
-        before: b"(",
         between: b" & ",
-        after: b")",
+        ..BINARY
     },
     // Or
     KindRow {
-        operands: 2,
-        flips: false,
         binding: Binding::Or,
-        before: b"(",
         between: b" | ",
-        after: b")",
+        ..BINARY
     },
     // Implies
     KindRow {
-        operands: 2,
-        flips: true,
         binding: Binding::Implies,
-        before: b"(",
+        flips: true,
         between: b" -> ",
-        after: b")",
+        ..BINARY
     },
     // Ex
     KindRow {
-        operands: 1,
-        flips: false,
-        binding: Binding::Unary,
         before: b"EX ",
-        between: b"",
-        after: b"",
+        ..UNARY
     },
     // Ax
     KindRow {
-        operands: 1,
-        flips: false,
-        binding: Binding::Unary,
         before: b"AX ",
-        between: b"",
-        after: b"",
+        ..UNARY
     },
     // Ef
     KindRow {
-        operands: 1,
-        flips: false,
-        binding: Binding::Unary,
         before: b"EF ",
-        between: b"",
-        after: b"",
+        ..UNARY
     },
     // Af
     KindRow {
-        operands: 1,
-        flips: false,
-        binding: Binding::Unary,
         before: b"AF ",
-        between: b"",
-        after: b"",
+        ..UNARY
     },
     // Eg
     KindRow {
-        operands: 1,
-        flips: false,
-        binding: Binding::Unary,
         before: b"EG ",
-        between: b"",
-        after: b"",
+        ..UNARY
     },
     // Ag
     KindRow {
-        operands: 1,
-        flips: false,
-        binding: Binding::Unary,
         before: b"AG ",
-        between: b"",
-        after: b"",
+        ..UNARY
     },
     // Eu
     KindRow {
-        operands: 2,
-        flips: false,
-        binding: Binding::Atom,
         before: b"E[",
-        between: b" U ",
-        after: b"]",
+        ..UNTIL
     },
     // Au
     KindRow {
-        operands: 2,
-        flips: false,
-        binding: Binding::Atom,
         before: b"A[",
-        between: b" U ",
-        after: b"]",
+        ..UNTIL
     },
 ];
 
+// One getter for each column; a row handed out whole would need the contracts of all six.
 impl Kind {
     pub fn operands(self) -> u8
         ensures { result ≡ arity_of self }

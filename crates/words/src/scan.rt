@@ -1,5 +1,6 @@
 // Bytes and runs of a text.
 ghost use Rattle.std.specs.Prelude.{◌≡◌, ◌+◌, ◌≤◌, length, drop};
+ghost use Rattle.std.specs.List.{take_while};
 ghost use Rattle.grammar.specs.Words.{inner, letter, same, spelled};
 ghost use Rattle.grammar.specs.Scanning.{run as running};
 ghost use Rattle.words.specs.Wording.{wording};
@@ -10,22 +11,16 @@ use crate::word::Word;
 fn is_inner(b: u8) -> bool
     ensures { result ≡ inner b }
 {
-    match b as char {
-        'a'..='z' | 'A'..='Z' | '0'..='9' | '_' => true,
-        _ => false,
-    }
+    matches!(b as char, 'a'..='z' | 'A'..='Z' | '0'..='9' | '_')
 }
 
 pub fn is_letter(b: u8) -> bool
     ensures { result ≡ letter b }
 {
-    match b as char {
-        'a'..='z' | 'A'..='Z' => true,
-        _ => false,
-    }
+    matches!(b as char, 'a'..='z' | 'A'..='Z')
 }
 
-// Whether two stretches hold the same bytes.
+// Whether two stretches hold the same bytes: `==` of slices, said by the grammar's own definition.
 pub fn equal(a: &[u8], b: &[u8]) -> bool
     ensures { result ≡ same a.now b.now }
 {
@@ -33,44 +28,41 @@ pub fn equal(a: &[u8], b: &[u8]) -> bool
 }
 
 // The word of a run of letters, digits and underscores: a name unless reserved.
+#[tactic(auto, unfolding(grammar::specs::Words::spelled))]
 pub fn spelling(run: &[u8]) -> Word<'_>
     ensures { wording result ≡ spelled run.now }
 {
-    if equal(run, b"A") {
-        Word::A
-    } else if equal(run, b"E") {
-        Word::E
-    } else if equal(run, b"U") {
-        Word::U
-    } else if equal(run, b"AX") {
-        Word::Ax
-    } else if equal(run, b"EX") {
-        Word::Ex
-    } else if equal(run, b"AF") {
-        Word::Af
-    } else if equal(run, b"EF") {
-        Word::Ef
-    } else if equal(run, b"AG") {
-        Word::Ag
-    } else if equal(run, b"EG") {
-        Word::Eg
-    } else if equal(run, b"true") {
-        Word::True
-    } else if equal(run, b"false") {
-        Word::False
-    } else {
-        Word::Name(run)
+    match run {
+        b"A" => Word::A,
+        b"E" => Word::E,
+        b"U" => Word::U,
+        b"AX" => Word::Ax,
+        b"EX" => Word::Ex,
+        b"AF" => Word::Af,
+        b"EF" => Word::Ef,
+        b"AG" => Word::Ag,
+        b"EG" => Word::Eg,
+        b"true" => Word::True,
+        b"false" => Word::False,
+        _ => Word::Name(run),
     }
 }
 
+// How many letters, digits and underscores stand from `place` on.
+fn run_len(text: &[u8], place: usize) -> usize
+    ensures { result ≡ length (take_while inner (drop place text.now)) }
+{
+    text.iter()
+        .skip(place)
+        .take_while(|b| is_inner(**b))
+        .count()
+}
+
 // The place past the run of letters, digits and underscores from `place` on.
+#[tactic(auto, using(crate::proofs::Looks::run_length))]
 pub fn past_run(text: &[u8], place: usize) -> usize
     ensures within { place ≤ length text.now → result ≤ length text.now }
     ensures whole { result ≡ place + length (running (drop place text.now)) }
 {
-    let mut at = place;
-    while at < text.len() && is_inner(text[at]) {
-        at += 1;
-    }
-    at
+    place + run_len(text, place)
 }

@@ -5,7 +5,7 @@ ghost use Rattle.words.specs.Wording.{kind_of};
 use crate::kinds::Kind;
 
 // A word. A name is a stretch of the caller's text; nothing is copied.
-#[derive(Clone, Copy)]
+#[derive(Clone, Copy, Debug, PartialEq, Eq, Hash)]
 pub enum Word<'a> {
     Open,
     Close,
@@ -30,7 +30,7 @@ pub enum Word<'a> {
 }
 
 // A word with its place, and the place past it.
-#[derive(Clone, Copy)]
+#[derive(Clone, Copy, Debug, PartialEq, Eq, Hash)]
 pub struct Seen<'a> {
     pub at: usize,
     pub word: Word<'a>,
@@ -38,7 +38,8 @@ pub struct Seen<'a> {
 }
 
 impl Word<'_> {
-    // The kind of the part that the word makes; none for a name, a bracket and `U`.
+    // The kind of the part that the word makes; none for a name, a bracket and `U`. An `Option` and no `TryFrom`, whose
+    // error would say nothing.
     pub fn kind(self) -> Option<Kind>
         ensures { result ≡ kind_of self.entry }
     {

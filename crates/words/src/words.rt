@@ -5,7 +5,7 @@ ghost use Rattle.std.specs.Prelude.{◌≤◌, length};
 mod looking;
 
 // A text, and the place where its next word is looked for.
-#[derive(Drop)]
+#[derive(Debug, Drop)]
 pub struct Words<'a> {
     pub text: &'a [u8],
     pub place: usize,

@@ -9,10 +9,10 @@ ghost use Rattle.names.specs.Naming.{spellings};
 
 use crate::rule::Rule;
 use names::Names;
-use reading::{Parts, RuleFault, read_parts};
+use reading::{RuleFault, read_parts};
 
 impl Rule {
-    // The rule that the text stands for with these names, entry i for label i; a name that the list lacks is `false`.
+    /// The rule that the text stands for with these names, entry i for label i; a name that the list lacks is `false`.
     pub fn read(names: &[&[u8]], text: &[u8]) -> Result<Rule, RuleFault>
         ensures grammar { Answering (spellings names.now) text.now (answered result) }
         ensures only { (a : Answer) → Answering (spellings names.now) text.now a → answered result ≡ a }
@@ -21,11 +21,7 @@ impl Rule {
         ensures names { Keeps (spellings names.now) result }
     {
         let list = Names::new(names)?;
-        let Parts { parts, count } = read_parts(&list, text)?;
-        Ok(Rule {
-            parts,
-            count,
-            names: list,
-        })
+        let parts = read_parts(&list, text)?;
+        Ok(Rule { parts, names: list })
     }
 }

@@ -1,16 +1,18 @@
 // Writing a rule into the caller's buffer.
-ghost use Rattle.std.specs.Prelude.{◌≡◌, ◌<◌, ◌≤◌, length};
+ghost use Rattle.std.specs.Prelude.{◌≡◌, ◌≤◌, length};
+ghost use Rattle.fixed_vec.specs.FixedVec.{items};
 ghost use Rattle.grammar.specs.Reading.{answer_of};
-ghost use Rattle.grammar.specs.Numbering.{operands_in};
 ghost use Rattle.grammar.specs.Answering.Answer.{the_rule};
 ghost use Rattle.reading.specs.Holding.{parting};
-ghost use Rattle.rule.specs.Printing.{Job, Placed, Printed, constant_for, word_for};
+ghost use Rattle.rule.specs.Printing.{Adds, constant_for, part_text, word_for};
 ghost use Rattle.rule.specs.Rules.{form_in, length_in, marked, names_in, put_into, struck_in, struck_text, text_of};
-ghost use Rattle.rule.specs.Signing.{operanding, signing};
+ghost use Rattle.rule.specs.Signing.{signing};
+ghost use Rattle.rule.specs.Walks.{Stands};
 
 use crate::operands::Operands;
 use crate::rule::Rule;
 use crate::sign::Sign;
+use fixed_vec::{FixedVec, Full};
 use reading::Part;
 use words::Kind;
 
@@ -21,7 +23,7 @@ const LINE: usize = 1024;
 fn is_marked(marks: &[u8], number: usize) -> bool
     ensures { result ≡ marked marks.now number }
 {
-    number < marks.len() && marks[number] != 0
+    marks.get(number).is_some_and(|&mark| mark != 0)
 }
 
 // What is written for a struck part: its constant alone.
@@ -32,16 +34,6 @@ fn constant(sign: Sign) -> &'static [u8]
         Sign::Plus => Kind::False.before(),
         Sign::Minus => Kind::True.before(),
     }
-}
-
-// Puts the bytes so that they end at `end`, and answers where they begin.
-fn put(out: &mut [u8], end: usize, bytes: &[u8]) -> usize
-    requires { (length bytes.now ≤ end) × (end ≤ length out.old) }
-    ensures { Placed out.old out.new result bytes.now end }
-{
-    let start = end - bytes.len();
-    out[start..end].copy_from_slice(bytes);
-    start
 }
 
 impl Rule {
@@ -55,69 +47,75 @@ impl Rule {
         }
     }
 
-    // The operands of the part with that number, and none where the rule has no such part.
-    fn operands_of(&self, number: usize) -> Operands
-        ensures { operanding result ≡ operands_in (form_in self.now) number }
-    {
-        self.operands(number).unwrap_or(Operands::None)
-    }
-
-    // Puts the text of the part `root`, whose sign is `sign`, so that it ends at `end`, and answers where it begins.
-    fn print(&self, marks: &[u8], sign: Sign, root: usize, out: &mut [u8], end: usize) -> usize
-        requires inside { root < self.now.count }
-        requires job { Job (form_in self.now) (names_in self.now) (marked marks.now) (signing sign) root end (length out.old) }
-        ensures { Printed (form_in self.now) (names_in self.now) (marked marks.now) (signing sign) root end out.old out.new result }
+    // Adds the text of the part `root`, whose sign is `sign`, to a line; refused where the line is too short for it.
+    fn print(
+        &self,
+        marks: &[u8],
+        sign: Sign,
+        root: usize,
+        line: &mut FixedVec<u8, LINE>,
+    ) -> Result<(), Full>
+        requires { Stands (form_in self.now) root (signing sign) }
+        ensures { (s : Stands (form_in self.now) root (signing sign)) → Adds (part_text (names_in self.now) (marked marks.now) s) (items line.old) (items line.new) result }
     {
         if is_marked(marks, root) {
-            return put(out, end, constant(sign));
+            return line.extend_from_slice(constant(sign));
         }
-        let part = self.parts[root];
+        let part = self.at(root);
         let turned = sign.flipped(part.kind.flips());
         match self.operands_of(root) {
-            Operands::None => put(out, end, self.word(part)),
+            Operands::None => line.extend_from_slice(self.word(part)),
             Operands::One(operand) => {
-                let start = self.print(marks, turned, operand, out, end);
-                put(out, start, part.kind.before())
+                line.extend_from_slice(part.kind.before())?;
+                self.print(marks, turned, operand, line)
             }
             Operands::Two(left, right) => {
-                let inner = put(out, end, part.kind.after());
-                let second = self.print(marks, sign, right, out, inner);
-                let middle = put(out, second, part.kind.between());
-                let first = self.print(marks, turned, left, out, middle);
-                put(out, first, part.kind.before())
+                line.extend_from_slice(part.kind.before())?;
+                self.print(marks, turned, left, line)?;
+                line.extend_from_slice(part.kind.between())?;
+                self.print(marks, sign, right, line)?;
+                line.extend_from_slice(part.kind.after())
             }
         }
     }
 
-    // Puts the text of the rule at the end of a line, which takes every rule, and answers where it begins.
-    fn print_line(&self, marks: &[u8], line: &mut [u8]) -> usize
-        requires { length line.old ≡ 1024 }
-        ensures start { result ≤ 1024 }
-        ensures text { Placed line.old line.new result (struck_text marks.now self.now) 1024 }
+    // The text of the rule with the marked parts struck, which every line takes.
+    fn line(&self, marks: &[u8]) -> FixedVec<u8, LINE>
+        ensures { items result ≡ struck_text marks.now self.now }
     {
-        self.print(marks, Sign::Plus, self.count - 1, line, LINE)
+        let mut line = FixedVec::new(0);
+        self.print(marks, Sign::Plus, self.len() - 1, &mut line)
+            .unwrap();
+        line
     }
 
-    // Writes the rule with the marked parts struck, each as its constant alone, and answers the length.
-    // A buffer that is too short stays as it was, and the length is 0. The text reads back as the struck rule.
+    /// The text of the rule.
+    pub fn text(&self) -> FixedVec<u8, LINE>
+        ensures { items result ≡ text_of self.now }
+    {
+        self.line(&[])
+    }
+
+    /// Writes the rule with the marked parts struck, each as its constant alone, and answers the length.
+    /// A buffer that is too short stays as it was, and the length is 0. The text reads back as the struck rule.
     pub fn write_struck(&self, marks: &[u8], out: &mut [u8]) -> usize
         ensures length { result ≡ length_in (struck_text marks.now self.now) out.old }
         ensures bytes { out.new ≡ put_into (struck_text marks.now self.now) out.old }
         ensures short { length (struck_text marks.now self.now) ≤ 1024 }
         ensures again { answer_of (names_in self.now) (struck_text marks.now self.now) ≡ the_rule (struck_in marks.now self.now) }
     {
-        let mut line = [0u8; LINE];
-        let start = self.print_line(marks, &mut line);
-        let len = LINE - start;
+        let line = self.line(marks);
+        let text = line.as_slice();
+        let len = text.len();
         if out.len() < len {
             return 0;
         }
-        out[0..len].copy_from_slice(&line[start..LINE]);
+        out[..len].copy_from_slice(text);
         len
     }
 
-    // Writes the rule and answers the length. A buffer that is too short stays as it was, and the length is 0.
-    // The text reads back as the rule.
+    /// Writes the rule and answers the length. A buffer that is too short stays as it was, and the length is 0.
+    /// The text reads back as the rule.
     pub fn write(&self, out: &mut [u8]) -> usize
         ensures length { result ≡ length_in (text_of self.now) out.old }
         ensures bytes { out.new ≡ put_into (text_of self.now) out.old }

@@ -10,7 +10,7 @@ use Rattle.rulecheck.proofs.charts.Goals as goal
 pub returns : goal.returns
 returns c =
     let t = c.ticket-ticket.ensures in
-    let ticket : ◌≡◌ {A = Meaning} _ ticket_meaning = λ i. table_meaning (t.labels i) (t.starts i) (t.moves i) (t.bounds i) in
+    let ticket : ◌≡◌ {A = Meaning} _ ticket_meaning = ap table_meaning t.tables in
     let row : ◌≡◌ {A = Meaning} _ two_seats = ap row_meaning c.two_seats-row.ensures.seats in
     let tickets = c.as_str.ensures.value ∙ c.in_ok-tickets.ensures ∙ ap (λ (m : Meaning). chart_of m (codes "held" ∷ codes "sold" ∷ [])) ticket in
     let seats = c.as_str-2.ensures.value ∙ c.in_ok-seats.ensures ∙ ap (λ (m : Meaning). chart_of m (codes "free" ∷ codes "held" ∷ codes "sold" ∷ [])) row in

@@ -1,8 +1,8 @@
 // Looking for the next word of a text.
-ghost use Rattle.std.specs.Prelude.{◌≡◌, ◌<◌, ◌≤◌, true, false, [], length, ◌≢◌, slice_index};
-ghost use Rattle.grammar.specs.Scanning.{from, signed};
+ghost use Rattle.std.specs.Prelude.{◌≡◌, ◌<◌, ◌≤◌, ◌==◌, true, false, not, [], drop, length, position, ◌≢◌, slice_index};
+ghost use Rattle.grammar.specs.Scanning.{signed};
 ghost use Rattle.grammar.specs.Words.{letter};
-ghost use Rattle.words.specs.Wording.{Looked, OneByte, signing};
+ghost use Rattle.words.specs.Wording.{Begins, Looked, OneByte, signing};
 
 use crate::faults::WordFault;
 use crate::scan::{past_run, spelling};
@@ -12,50 +12,81 @@ use crate::words::Words;
 // The longest word in bytes.
 const LONGEST_WORD: usize = 16;
 
-// The place of the first byte from `place` on that is no space.
-fn past_spaces(text: &[u8], place: usize) -> usize
-    requires { place ≤ length text.now }
-    ensures within { (place ≤ result) × (result ≤ length text.now) }
-    ensures words { from text.now place ≡ from text.now result }
-    ensures stops { result < length text.now → slice_index text.now result ≢ 32 }
-{
-    let mut at = place;
-    while at < text.len() && text[at] == b' ' {
-        at += 1;
-    }
-    at
+// A byte of a text, by its place.
+#[derive(Clone, Copy)]
+struct Spot<'a> {
+    text: &'a [u8],
+    at: usize,
+    ghost inside: { at < length text.now },
 }
 
-// The word of the run that the letter at `at` begins.
-fn run_at(text: &[u8], at: usize) -> Result<Option<Seen<'_>>, WordFault>
-    requires { (at < length text.now) × (letter (slice_index text.now at) ≡ true) }
-    ensures { Looked text.now at result }
-{
-    let end = past_run(text, at + 1);
-    if end - at > LONGEST_WORD {
-        return Err(WordFault::Long(at));
+impl<'a> Spot<'a> {
+    fn byte(&self) -> u8
+        ensures { result ≡ slice_index self.now.text.now self.now.at }
+    {
+        self.text[self.at]
     }
-    let word = spelling(&text[at..end]);
-    Ok(Some(Seen {
-        at,
-        word,
-        after: end,
-    }))
-}
 
-// The arrow that the `-` at `at` begins.
-fn arrow_at(text: &[u8], at: usize) -> Result<Option<Seen<'_>>, WordFault>
-    requires { (at < length text.now) × (slice_index text.now at ≡ 45) }
-    ensures { Looked text.now at result }
-{
-    if at + 1 < text.len() && text[at + 1] == b'>' {
-        return Ok(Some(Seen {
-            at,
+    // The word that begins here, where no space stands.
+    fn word(&self) -> Result<Seen<'a>, WordFault>
+        requires { slice_index self.now.text.now self.now.at ≢ 32 }
+        ensures { Begins self.now.text.now self.now.at result }
+    {
+        match self.byte() as char {
+            'a'..='z' | 'A'..='Z' => self.run(),
+            '-' => self.arrow(),
+            _ => self.sign(),
+        }
+    }
+
+    // The word of the run that this letter begins.
+    fn run(&self) -> Result<Seen<'a>, WordFault>
+        requires { letter (slice_index self.now.text.now self.now.at) ≡ true }
+        ensures { Begins self.now.text.now self.now.at result }
+    {
+        let after = past_run(self.text, self.at + 1);
+        if after - self.at > LONGEST_WORD {
+            return Err(WordFault::Long(self.at));
+        }
+        let word = spelling(&self.text[self.at..after]);
+        Ok(Seen {
+            at: self.at,
+            word,
+            after,
+        })
+    }
+
+    // The arrow that this `-` begins.
+    fn arrow(&self) -> Result<Seen<'a>, WordFault>
+        requires { slice_index self.now.text.now self.now.at ≡ 45 }
+        ensures { Begins self.now.text.now self.now.at result }
+    {
+        if self.text.get(self.at + 1) != Some(&b'>') {
+            return Err(WordFault::Strange(self.at));
+        }
+        Ok(Seen {
+            at: self.at,
             word: Word::Arrow,
-            after: at + 2,
-        }));
+            after: self.at + 2,
+        })
     }
-    Err(WordFault::Strange(at))
+
+    // The word of this one byte.
+    fn sign(&self) -> Result<Seen<'a>, WordFault>
+        requires no_space { slice_index self.now.text.now self.now.at ≢ 32 }
+        requires no_letter { letter (slice_index self.now.text.now self.now.at) ≡ false }
+        requires no_dash { slice_index self.now.text.now self.now.at ≢ 45 }
+        ensures { Begins self.now.text.now self.now.at result }
+    {
+        let Some(word) = sign(self.byte()) else {
+            return Err(WordFault::Strange(self.at));
+        };
+        Ok(Seen {
+            at: self.at,
+            word,
+            after: self.at + 1,
+        })
+    }
 }
 
 // The word that is this one byte.
@@ -75,22 +106,11 @@ fn sign(b: u8) -> Option<Word<'static>>
     }
 }
 
-// The word of one byte at `at`.
-fn sign_at(text: &[u8], at: usize) -> Result<Option<Seen<'_>>, WordFault>
-    requires here { at < length text.now }
-    requires no_space { slice_index text.now at ≢ 32 }
-    requires no_letter { letter (slice_index text.now at) ≡ false }
-    requires no_dash { slice_index text.now at ≢ 45 }
-    ensures { Looked text.now at result }
+// How many spaces stand from `place` on before the next other byte; none where no other byte comes.
+fn spaces(text: &[u8], place: usize) -> Option<usize>
+    ensures { result ≡ position (λ b. not (b == 32)) (drop place text.now) }
 {
-    match sign(text[at]) {
-        Some(word) => Ok(Some(Seen {
-            at,
-            word,
-            after: at + 1,
-        })),
-        None => Err(WordFault::Strange(at)),
-    }
+    text.iter().skip(place).position(|&b| b != b' ')
 }
 
 // The next word from `place` on, or none where the text ends.
@@ -98,16 +118,14 @@ fn word_at(text: &[u8], place: usize) -> Result<Option<Seen<'_>>, WordFault>
     requires { place ≤ length text.now }
     ensures { Looked text.now place result }
 {
-    let at = past_spaces(text, place);
-    if at == text.len() {
+    let Some(skipped) = spaces(text, place) else {
         return Ok(None);
-    }
-    match text[at] as char {
-        'a'..='z' => run_at(text, at),
-        'A'..='Z' => run_at(text, at),
-        '-' => arrow_at(text, at),
-        _ => sign_at(text, at),
-    }
+    };
+    let spot = Spot {
+        text,
+        at: place + skipped,
+    };
+    spot.word().map(Some)
 }
 
 impl<'a> Words<'a> {

@@ -1,52 +1,32 @@
-use Rattle.std.proofs.Common.{refl}
+use Rattle.std.proofs.Common.{arith}
+use Rattle.std.proofs.lemmas.Grind.{common_steps}
 use Rattle.grammar.specs.Words.{spelled}
-use Rattle.grammar.proofs.Chains.{here, past}
+use Rattle.words.proofs.Looks.{other_length}
 use Rattle.words.proofs.scan.spelling.Goals as goal
+use Rattle.words.proofs.scan.spelling.Goals.{in_default-via-then-run-lt1, in_default-via-else-run-lt1+then-run-lt2+in_default-1, in_default-via-else-run-lt1+else-run-lt2+then-run-lt3+in-65+in_default-1, in_default-via-else-run-lt1+else-run-lt2+then-run-lt3+in-69+in_default-1, in_default-via-else-run-lt1+else-run-lt2+then-run-lt3+in_default-1, in_default-via-else-run-lt1+else-run-lt2+else-run-lt3+then-run-lt4, in_default-via-else-run-lt1+else-run-lt2+else-run-lt3+else-run-lt4+then-run-lt5+in-116+in-114+in-117+in_default-1, in_default-via-else-run-lt1+else-run-lt2+else-run-lt3+else-run-lt4+then-run-lt5+in-116+in-114+in_default-1, in_default-via-else-run-lt1+else-run-lt2+else-run-lt3+else-run-lt4+then-run-lt5+in-116+in_default-1, in_default-via-else-run-lt1+else-run-lt2+else-run-lt3+else-run-lt4+then-run-lt5+in_default-1, in_default-via-else-run-lt1+else-run-lt2+else-run-lt3+else-run-lt4+else-run-lt5+then-run-lt6+in-102+in-97+in-108+in-115+in_default-1, in_default-via-else-run-lt1+else-run-lt2+else-run-lt3+else-run-lt4+else-run-lt5+then-run-lt6+in-102+in-97+in-108+in_default-1, in_default-via-else-run-lt1+else-run-lt2+else-run-lt3+else-run-lt4+else-run-lt5+then-run-lt6+in-102+in-97+in_default-1, in_default-via-else-run-lt1+else-run-lt2+else-run-lt3+else-run-lt4+else-run-lt5+then-run-lt6+in-102+in_default-1, in_default-via-else-run-lt1+else-run-lt2+else-run-lt3+else-run-lt4+else-run-lt5+then-run-lt6+in_default-1, in_default-via-else-run-lt1+else-run-lt2+else-run-lt3+else-run-lt4+else-run-lt5+else-run-lt6}
 
-pub returns-then-equal : goal.returns-then-equal
+-- the ways in which the run is none of the literals, by its length and first bytes
+pub returns-in_default : goal.returns-in_default
 unfolding spelled
-returns-then-equal c = here _ _ c.if-equal.ensures
+returns-in_default c = elim c.in_default.branch [
+  | in_default-via-then-run-lt1 w ↦ grind (arith, common_steps, other_length)
+  | in_default-via-else-run-lt1+then-run-lt2+in_default-1 w ↦ grind (arith, common_steps, other_length)
+  | in_default-via-else-run-lt1+else-run-lt2+then-run-lt3+in-65+in_default-1 w ↦ grind (arith, common_steps, other_length)
+  | in_default-via-else-run-lt1+else-run-lt2+then-run-lt3+in-69+in_default-1 w ↦ grind (arith, common_steps, other_length)
+  | in_default-via-else-run-lt1+else-run-lt2+then-run-lt3+in_default-1 w ↦ grind (arith, common_steps, other_length)
+  | in_default-via-else-run-lt1+else-run-lt2+else-run-lt3+then-run-lt4 w ↦ grind (arith, common_steps, other_length)
+  | in_default-via-else-run-lt1+else-run-lt2+else-run-lt3+else-run-lt4+then-run-lt5+in-116+in-114+in-117+in_default-1 w ↦ grind (arith, common_steps, other_length)
+  | in_default-via-else-run-lt1+else-run-lt2+else-run-lt3+else-run-lt4+then-run-lt5+in-116+in-114+in_default-1 w ↦ grind (arith, common_steps, other_length)
+  | in_default-via-else-run-lt1+else-run-lt2+else-run-lt3+else-run-lt4+then-run-lt5+in-116+in_default-1 w ↦ grind (arith, common_steps, other_length)
+  | in_default-via-else-run-lt1+else-run-lt2+else-run-lt3+else-run-lt4+then-run-lt5+in_default-1 w ↦ grind (arith, common_steps, other_length)
+  | in_default-via-else-run-lt1+else-run-lt2+else-run-lt3+else-run-lt4+else-run-lt5+then-run-lt6+in-102+in-97+in-108+in-115+in_default-1 w ↦ grind (arith, common_steps, other_length)
+  | in_default-via-else-run-lt1+else-run-lt2+else-run-lt3+else-run-lt4+else-run-lt5+then-run-lt6+in-102+in-97+in-108+in_default-1 w ↦ grind (arith, common_steps, other_length)
+  | in_default-via-else-run-lt1+else-run-lt2+else-run-lt3+else-run-lt4+else-run-lt5+then-run-lt6+in-102+in-97+in_default-1 w ↦ grind (arith, common_steps, other_length)
+  | in_default-via-else-run-lt1+else-run-lt2+else-run-lt3+else-run-lt4+else-run-lt5+then-run-lt6+in-102+in_default-1 w ↦ grind (arith, common_steps, other_length)
+  | in_default-via-else-run-lt1+else-run-lt2+else-run-lt3+else-run-lt4+else-run-lt5+then-run-lt6+in_default-1 w ↦ grind (arith, common_steps, other_length)
+  | in_default-via-else-run-lt1+else-run-lt2+else-run-lt3+else-run-lt4+else-run-lt5+else-run-lt6 w ↦ grind (arith, common_steps, other_length)
+]
 
-pub returns-then-equal-2 : goal.returns-then-equal-2
+pub returns-in-false : goal.returns-in-false
 unfolding spelled
-returns-then-equal-2 c = past _ _ c.if-equal.ensures (here _ _ c.if-equal-2.ensures)
-
-pub returns-then-equal-3 : goal.returns-then-equal-3
-unfolding spelled
-returns-then-equal-3 c = past _ _ c.if-equal.ensures (past _ _ c.if-equal-2.ensures (here _ _ c.if-equal-3.ensures))
-
-pub returns-then-equal-4 : goal.returns-then-equal-4
-unfolding spelled
-returns-then-equal-4 c = past _ _ c.if-equal.ensures (past _ _ c.if-equal-2.ensures (past _ _ c.if-equal-3.ensures (here _ _ c.if-equal-4.ensures)))
-
-pub returns-then-equal-5 : goal.returns-then-equal-5
-unfolding spelled
-returns-then-equal-5 c = past _ _ c.if-equal.ensures (past _ _ c.if-equal-2.ensures (past _ _ c.if-equal-3.ensures (past _ _ c.if-equal-4.ensures (here _ _ c.if-equal-5.ensures))))
-
-pub returns-then-equal-6 : goal.returns-then-equal-6
-unfolding spelled
-returns-then-equal-6 c = past _ _ c.if-equal.ensures (past _ _ c.if-equal-2.ensures (past _ _ c.if-equal-3.ensures (past _ _ c.if-equal-4.ensures (past _ _ c.if-equal-5.ensures (here _ _ c.if-equal-6.ensures)))))
-
-pub returns-then-equal-7 : goal.returns-then-equal-7
-unfolding spelled
-returns-then-equal-7 c = past _ _ c.if-equal.ensures (past _ _ c.if-equal-2.ensures (past _ _ c.if-equal-3.ensures (past _ _ c.if-equal-4.ensures (past _ _ c.if-equal-5.ensures (past _ _ c.if-equal-6.ensures (here _ _ c.if-equal-7.ensures))))))
-
-pub returns-then-equal-8 : goal.returns-then-equal-8
-unfolding spelled
-returns-then-equal-8 c = past _ _ c.if-equal.ensures (past _ _ c.if-equal-2.ensures (past _ _ c.if-equal-3.ensures (past _ _ c.if-equal-4.ensures (past _ _ c.if-equal-5.ensures (past _ _ c.if-equal-6.ensures (past _ _ c.if-equal-7.ensures (here _ _ c.if-equal-8.ensures)))))))
-
-pub returns-then-equal-9 : goal.returns-then-equal-9
-unfolding spelled
-returns-then-equal-9 c = past _ _ c.if-equal.ensures (past _ _ c.if-equal-2.ensures (past _ _ c.if-equal-3.ensures (past _ _ c.if-equal-4.ensures (past _ _ c.if-equal-5.ensures (past _ _ c.if-equal-6.ensures (past _ _ c.if-equal-7.ensures (past _ _ c.if-equal-8.ensures (here _ _ c.if-equal-9.ensures))))))))
-
-pub returns-then-equal-10 : goal.returns-then-equal-10
-unfolding spelled
-returns-then-equal-10 c = past _ _ c.if-equal.ensures (past _ _ c.if-equal-2.ensures (past _ _ c.if-equal-3.ensures (past _ _ c.if-equal-4.ensures (past _ _ c.if-equal-5.ensures (past _ _ c.if-equal-6.ensures (past _ _ c.if-equal-7.ensures (past _ _ c.if-equal-8.ensures (past _ _ c.if-equal-9.ensures (here _ _ c.if-equal-10.ensures)))))))))
-
-pub returns-then-equal-11 : goal.returns-then-equal-11
-unfolding spelled
-returns-then-equal-11 c = past _ _ c.if-equal.ensures (past _ _ c.if-equal-2.ensures (past _ _ c.if-equal-3.ensures (past _ _ c.if-equal-4.ensures (past _ _ c.if-equal-5.ensures (past _ _ c.if-equal-6.ensures (past _ _ c.if-equal-7.ensures (past _ _ c.if-equal-8.ensures (past _ _ c.if-equal-9.ensures (past _ _ c.if-equal-10.ensures (here _ _ c.if-equal-11.ensures))))))))))
-
-pub returns-else-equal-11 : goal.returns-else-equal-11
-unfolding spelled
-returns-else-equal-11 c = past _ _ c.if-equal.ensures (past _ _ c.if-equal-2.ensures (past _ _ c.if-equal-3.ensures (past _ _ c.if-equal-4.ensures (past _ _ c.if-equal-5.ensures (past _ _ c.if-equal-6.ensures (past _ _ c.if-equal-7.ensures (past _ _ c.if-equal-8.ensures (past _ _ c.if-equal-9.ensures (past _ _ c.if-equal-10.ensures (past _ _ c.if-equal-11.ensures refl))))))))))
+returns-in-false c = grind (arith, common_steps, other_length)

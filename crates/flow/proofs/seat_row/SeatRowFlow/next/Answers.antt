@@ -1,20 +1,44 @@
-use Rattle.std.proofs.Common.{ℕ, List, length, get_or, sym, ap, ◌∙◌, ap₂, arith}
-use Rattle.flow.proofs.SeatWalk.{with_seat, from_end, next_none, left_here, left_past}
+use Rattle.std.proofs.Common.{rules, ◌<◌, length, sym, arith}
+use Rattle.flow.specs.Seats.{becomes}
+use Rattle.flow.specs.SeatLimits.{power_few}
+use Rattle.flow.proofs.SeatWalk.{walk_begins, weight_fits, digit_fits, new_fits, change_within, change_here, change_later, next_changed, next_itself, next_none}
 use Rattle.flow.proofs.seat_row.SeatRowFlow.next.Goals as goal
 
-pub returns-then-left-here : goal.returns-then-left-here
-returns-then-left-here c =
-    c.with_seat.ensures
-    ∙ ap (with_seat c.args.s c.loop-i.i) c.nth_change.ensures
-    ∙ sym (left_here c.args.self.now.seats c.args.s c.loop-i.i c.seat_at-seat.result (omega arith) c.seat_at-seat.ensures (omega arith) c.args.k c.loop-i.left c.loop-i.invariant (omega arith))
+pub loop-seat-init : goal.loop-seat-init
+loop-seat-init c =
+    let start = walk_begins c.args.self.now.seats c.args.s c.args.k c.args.self.now.few (omega arith) in
+    search rules
 
-pub loop-i-preserved : goal.loop-i-preserved
-loop-i-preserved c =
-    left_past c.args.self.now.seats c.args.s c.loop-i.i c.seat_at-seat.result (omega arith) c.seat_at-seat.ensures (omega arith) c.args.k c.loop-i.left c.ways-here.result c.ways-here.ensures c.if-left-here.false c.loop-i.invariant
+pub overflow_sub-result : goal.overflow_sub-result
+overflow_sub-result c = rw c.digit.ensures (digit_fits c.in-Some.ensures.steps c.loop-seat.invariant)
+
+pub overflow_mul-result-then-left-ways : goal.overflow_mul-result-then-left-ways
+overflow_mul-result-then-left-ways c =
+    rw c.digit-then-left-ways.ensures (let h = new_fits c.in-Some.ensures.steps c.loop-seat.invariant c.nth_change.result in omega arith)
+
+pub overflow_add-result : goal.overflow_add-result
+overflow_add-result c =
+    rw c.digit-then-left-ways.ensures (let h = new_fits c.in-Some.ensures.steps c.loop-seat.invariant c.nth_change.result in omega (arith, power_few c.args.self.now.seats c.args.self.now.few))
+
+pub returns-then-left-ways : goal.returns-then-left-ways
+returns-then-left-ways c =
+    let here : c.loop-seat.left < length (becomes c.in-Some.seat) = omega arith in
+    let a = next_changed c.args.self.now.seats c.args.s c.args.k (omega arith) (change_within c.in-Some.ensures.steps c.loop-seat.invariant here) in
+    let b = change_here c.in-Some.ensures.steps c.loop-seat.invariant here in
+    cc
+
+pub overflow_mul-weight : goal.overflow_mul-weight
+overflow_mul-weight c =
+    omega (arith, weight_fits c.in-Some.ensures.steps c.loop-seat.invariant)
+
+pub loop-seat-preserved : goal.loop-seat-preserved
+loop-seat-preserved c =
+    change_later c.in-Some.ensures.steps c.loop-seat.invariant c.ways-ways.result c.ways-ways.ensures c.if-left-ways.false
 
 pub returns-then-k-eq0 : goal.returns-then-k-eq0
 returns-then-k-eq0 c =
-    let k = c.args.self.now.seats in
-    let s = c.args.s in
-    let e = ap length (from_end k s c.loop-i.i (omega arith)) in
-    sym (ap₂ (λ (ns : List ℕ) (n : ℕ). get_or ns n 0) (next_none k s (omega arith) (omega arith)) c.if-k-eq0.true)
+    sym (next_itself c.args.self.now.seats c.args.s c.args.k (omega arith) c.in-None.ensures.steps.0 c.loop-seat.invariant c.if-k-eq0.true)
+
+pub returns-else-k-eq0 : goal.returns-else-k-eq0
+returns-else-k-eq0 c =
+    sym (next_none c.args.self.now.seats c.args.s c.args.k (omega arith) c.in-None.ensures.steps.0 c.loop-seat.invariant c.if-k-eq0.false)

@@ -1,5 +1,7 @@
-use Rattle.flow.proofs.SeatWalk.{Left}
+use Rattle.flow.specs.Seats.{seats_of}
+use Rattle.flow.proofs.SeatWalk.{Walk}
 use Rattle.flow.proofs.seat_row.SeatRowFlow.next.Given as goal
 
-abbrev pub invariant-loop-i : goal.invariant-loop-i
-invariant-loop-i l = Left l.self.seats l.s l.k l.i l.left
+abbrev pub invariant-loop-seat : goal.invariant-loop-seat
+invariant-loop-seat l =
+    Walk (seats_of l.self.seats l.s) l.s l.k l.weight (seats_of l.seat-iterator.left l.seat-iterator.state) l.left

@@ -14,8 +14,8 @@ push-requires c =
       lacks = ap (absent (names_of c.loop-i.list)) c.in-Some.ensures.1 ∙ c.in-Some.ensures.0;
     }
 
-pub returns-in-None : goal.returns-in-None
-returns-in-None c = not_fresh c.args.names.now c.loop-i.list _ c.loop-i.invariant c.if-names-gt-MOST_NAMES.false c.loop-i-test.true _ c.in-None.ensures
+pub returns-in_default : goal.returns-in_default
+returns-in_default c = not_fresh c.args.names.now c.loop-i.list _ c.loop-i.invariant c.if-names-gt-MOST_NAMES.false c.loop-i-test.true _ c.in_default.ensures
 
 pub loop-i-preserved : goal.loop-i-preserved
 loop-i-preserved c =

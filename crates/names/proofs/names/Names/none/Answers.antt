@@ -1,7 +1,8 @@
-use Rattle.std.proofs.Common.{refl, arith}
+use Rattle.std.proofs.Common.{ap}
 use Rattle.grammar.specs.Reading.{wrong_in}
+use Rattle.names.specs.Naming.{is_right, names_in}
 use Rattle.names.proofs.names.Names.none.Goals as goal
 
 pub invariant_of-result : goal.invariant_of-result
 unfolding wrong_in
-invariant_of-result c = record { few = omega arith; held = omega arith; fine = refl }
+invariant_of-result c = record { fine = ap (λ es. is_right (wrong_in (names_in es))) c.new.ensures }

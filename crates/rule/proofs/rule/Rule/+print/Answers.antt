@@ -1,63 +1,83 @@
-use Rattle.std.proofs.Common.{sym, ◌∙◌, arith}
-use Rattle.rule.specs.Rules.{marked}
-use Rattle.rule.proofs.Printings as prints
+use Rattle.std.proofs.Common.{sym, refl, ◌∙◌, arith}
+use Rattle.std.proofs.lemmas.Result.{err_from_is_err_and}
+use Rattle.rule.specs.Printing.{part_text}
+use Rattle.rule.specs.Rules.{marked, names_in}
+use Rattle.rule.proofs.Standings.{stands_within}
+use Rattle.rule.proofs.Printings.{extended, adds_more, adds_stop, constant_text, leaf_text, one_pieces, two_pieces}
 use Rattle.rule.proofs.rule.Rule.+print.Goals as goal
 
-pub put-requires : goal.put-requires
-put-requires t c = prints.all_fits c.requires.job (c.constant.ensures ∙ prints.struck_text_lem (sym c.if-is_marked.ensures) c.requires.job)
-
 pub returns-then-is_marked : goal.returns-then-is_marked
-returns-then-is_marked t c = λ j. prints.placed_as c.put.ensures (c.constant.ensures ∙ prints.struck_text_lem (sym c.if-is_marked.ensures) j)
+returns-then-is_marked t c = λ s.
+    extended _ _ _ c.extend_from_slice.ensures (constant_text (names_in c.args.self.now) (marked c.args.marks.now) s (sym c.if-is_marked.ensures) ∙ sym c.constant.ensures)
 
-pub put-requires-in-None : goal.put-requires-in-None
-put-requires-in-None t c =
-    prints.all_fits c.requires.job (c.word.ensures ∙ prints.leaf_view c.args.self.now (marked c.args.marks.now) c.args.root prints.filler c.requires.inside c.if-is_marked.ensures c.requires.job c.in-None.ensures)
+pub at-part-requires : goal.at-part-requires
+at-part-requires t c = stands_within c.requires
+
+pub operands_of-requires : goal.operands_of-requires
+operands_of-requires t c = stands_within c.requires
 
 pub returns-in-None : goal.returns-in-None
-returns-in-None t c = λ j.
-    prints.placed_as c.put-in-None.ensures (c.word.ensures ∙ prints.leaf_view c.args.self.now (marked c.args.marks.now) c.args.root prints.filler c.requires.inside c.if-is_marked.ensures j c.in-None.ensures)
+returns-in-None t c = λ s.
+    extended _ _ _ c.extend_from_slice-in-None.ensures (leaf_text (names_in c.args.self.now) (marked c.args.marks.now) s (sym c.if-is_marked.ensures) c.at-part.result c.at-part.ensures c.in-None.ensures ∙ sym c.word.ensures)
 
-pub print-start-requires : goal.print-start-requires
-print-start-requires t c =
-    let w = prints.one_view c.args.self.now (marked c.args.marks.now) c.args.root prints.filler c.requires.inside c.if-is_marked.ensures c.requires.job c.in-One.ensures c.flips.ensures c.flipped-turned.ensures in
-    (omega (arith, w.less), (omega (arith, w.less), prints.one_job c.args.out.now c.requires.job w))
+-- the pieces of a part with one operand: what stands before it, and the operand
+pub returns-in_err-extend_from_slice-in-One : goal.returns-in_err-extend_from_slice-in-One
+returns-in_err-extend_from_slice-in-One t c = λ s.
+    let w = one_pieces (names_in c.args.self.now) (marked c.args.marks.now) s (sym c.if-is_marked.ensures) c.at-part.result c.at-part.ensures c.flips.ensures c.flipped-turned.ensures c.in-One.ensures in
+    adds_stop _ w.text c.before-in-One.ensures c.in_err-extend_from_slice-in-One.ensures.1 (err_from_is_err_and c.from_residual.result c.from_residual.ensures.1)
 
-pub put-requires-in-One : goal.put-requires-in-One
-put-requires-in-One t c =
-    let w = prints.one_view c.args.self.now (marked c.args.marks.now) c.args.root prints.filler c.requires.inside c.if-is_marked.ensures c.requires.job c.in-One.ensures c.flips.ensures c.flipped-turned.ensures in
-    prints.fits_as c.before-in-One.ensures (prints.one_fits c.args.out.now c.requires.job w c.print-start.ensures)
+pub print-requires : goal.print-requires
+print-requires t c =
+    let w = one_pieces (names_in c.args.self.now) (marked c.args.marks.now) c.requires (sym c.if-is_marked.ensures) c.at-part.result c.at-part.ensures c.flips.ensures c.flipped-turned.ensures c.in-One.ensures in
+    (omega (arith, w.less), w.inner)
 
-pub returns-in-One : goal.returns-in-One
-returns-in-One t c = λ j.
-    let w = prints.one_view c.args.self.now (marked c.args.marks.now) c.args.root prints.filler c.requires.inside c.if-is_marked.ensures j c.in-One.ensures c.flips.ensures c.flipped-turned.ensures in
-    prints.one_done c.args.out.now j w c.print-start.ensures (prints.placed_as c.put-in-One.ensures c.before-in-One.ensures)
+pub returns-in_ok-extend_from_slice-in-One : goal.returns-in_ok-extend_from_slice-in-One
+returns-in_ok-extend_from_slice-in-One t c = λ s.
+    let w = one_pieces (names_in c.args.self.now) (marked c.args.marks.now) s (sym c.if-is_marked.ensures) c.at-part.result c.at-part.ensures c.flips.ensures c.flipped-turned.ensures c.in-One.ensures in
+    adds_more w.text c.before-in-One.ensures c.in_ok-extend_from_slice-in-One.ensures (c.print.ensures w.inner)
 
-pub put-inner-requires : goal.put-inner-requires
-put-inner-requires t c =
-    let w = prints.two_view c.args.self.now (marked c.args.marks.now) c.args.root prints.filler c.requires.inside c.if-is_marked.ensures c.requires.job c.in-Two.ensures c.flips.ensures c.flipped-turned.ensures in
-    prints.fits_as c.after.ensures (prints.after_fits c.args.out.now c.requires.job w)
+-- the five pieces of a part with two operands
+pub returns-in_err-extend_from_slice-in-Two : goal.returns-in_err-extend_from_slice-in-Two
+returns-in_err-extend_from_slice-in-Two t c = λ s.
+    let w = two_pieces (names_in c.args.self.now) (marked c.args.marks.now) s (sym c.if-is_marked.ensures) c.at-part.result c.at-part.ensures c.flips.ensures c.flipped-turned.ensures c.in-Two.ensures in
+    adds_stop _ w.text c.before-in-Two.ensures c.in_err-extend_from_slice-in-Two.ensures.1 (err_from_is_err_and c.from_residual-in_err-extend_from_slice-in-Two.result c.from_residual-in_err-extend_from_slice-in-Two.ensures.1)
 
-pub print-second-requires : goal.print-second-requires
-print-second-requires t c =
-    let w = prints.two_view c.args.self.now (marked c.args.marks.now) c.args.root prints.filler c.requires.inside c.if-is_marked.ensures c.requires.job c.in-Two.ensures c.flips.ensures c.flipped-turned.ensures in
-    (omega (arith, w.next_less), (omega (arith, w.next_less), prints.next_job c.args.out.now c.requires.job w (prints.placed_as c.put-inner.ensures c.after.ensures)))
+pub print-requires-in-Two : goal.print-requires-in-Two
+print-requires-in-Two t c =
+    let w = two_pieces (names_in c.args.self.now) (marked c.args.marks.now) c.requires (sym c.if-is_marked.ensures) c.at-part.result c.at-part.ensures c.flips.ensures c.flipped-turned.ensures c.in-Two.ensures in
+    (omega (arith, w.less), w.former)
 
-pub put-middle-requires : goal.put-middle-requires
-put-middle-requires t c =
-    let w = prints.two_view c.args.self.now (marked c.args.marks.now) c.args.root prints.filler c.requires.inside c.if-is_marked.ensures c.requires.job c.in-Two.ensures c.flips.ensures c.flipped-turned.ensures in
-    prints.fits_as c.between.ensures (prints.between_fits c.args.out.now c.requires.job w (prints.placed_as c.put-inner.ensures c.after.ensures) c.print-second.ensures)
+pub returns-in_err-print-in-Two : goal.returns-in_err-print-in-Two
+returns-in_err-print-in-Two t c = λ s.
+    let w = two_pieces (names_in c.args.self.now) (marked c.args.marks.now) s (sym c.if-is_marked.ensures) c.at-part.result c.at-part.ensures c.flips.ensures c.flipped-turned.ensures c.in-Two.ensures in
+    adds_more w.text c.before-in-Two.ensures c.in_ok-extend_from_slice-in-Two.ensures
+    (adds_stop {a = part_text (names_in c.args.self.now) (marked c.args.marks.now) w.former} _ refl refl (c.in_err-print-in-Two.ensures w.former).full (err_from_is_err_and c.from_residual-in_err-print-in-Two.result c.from_residual-in_err-print-in-Two.ensures.1))
 
-pub print-first-requires : goal.print-first-requires
-print-first-requires t c =
-    let w = prints.two_view c.args.self.now (marked c.args.marks.now) c.args.root prints.filler c.requires.inside c.if-is_marked.ensures c.requires.job c.in-Two.ensures c.flips.ensures c.flipped-turned.ensures in
-    (omega (arith, w.less), (omega (arith, w.less), prints.first_job c.args.out.now c.requires.job w (prints.placed_as c.put-inner.ensures c.after.ensures) c.print-second.ensures (prints.placed_as c.put-middle.ensures c.between.ensures)))
+pub returns-in_err-extend_from_slice-in-Two-2 : goal.returns-in_err-extend_from_slice-in-Two-2
+returns-in_err-extend_from_slice-in-Two-2 t c = λ s.
+    let w = two_pieces (names_in c.args.self.now) (marked c.args.marks.now) s (sym c.if-is_marked.ensures) c.at-part.result c.at-part.ensures c.flips.ensures c.flipped-turned.ensures c.in-Two.ensures in
+    adds_more w.text c.before-in-Two.ensures c.in_ok-extend_from_slice-in-Two.ensures
+    (adds_more refl refl (c.in_ok-print-in-Two.ensures w.former).ok
+    (adds_stop _ refl c.between.ensures c.in_err-extend_from_slice-in-Two-2.ensures.1 (err_from_is_err_and c.from_residual-in_err-extend_from_slice-in-Two-2.result c.from_residual-in_err-extend_from_slice-in-Two-2.ensures.1)))
 
-pub put-requires-in-Two : goal.put-requires-in-Two
-put-requires-in-Two t c =
-    let w = prints.two_view c.args.self.now (marked c.args.marks.now) c.args.root prints.filler c.requires.inside c.if-is_marked.ensures c.requires.job c.in-Two.ensures c.flips.ensures c.flipped-turned.ensures in
-    prints.fits_as c.before-in-Two.ensures (prints.before_fits c.args.out.now c.requires.job w (prints.placed_as c.put-inner.ensures c.after.ensures) c.print-second.ensures (prints.placed_as c.put-middle.ensures c.between.ensures) c.print-first.ensures)
+pub print-requires-in-Two-2 : goal.print-requires-in-Two-2
+print-requires-in-Two-2 t c =
+    let w = two_pieces (names_in c.args.self.now) (marked c.args.marks.now) c.requires (sym c.if-is_marked.ensures) c.at-part.result c.at-part.ensures c.flips.ensures c.flipped-turned.ensures c.in-Two.ensures in
+    (omega (arith, w.latter_less), w.latter)
 
-pub returns-in-Two : goal.returns-in-Two
-returns-in-Two t c = λ j.
-    let w = prints.two_view c.args.self.now (marked c.args.marks.now) c.args.root prints.filler c.requires.inside c.if-is_marked.ensures j c.in-Two.ensures c.flips.ensures c.flipped-turned.ensures in
-    prints.two_done c.args.out.now j w (prints.placed_as c.put-inner.ensures c.after.ensures) c.print-second.ensures (prints.placed_as c.put-middle.ensures c.between.ensures) c.print-first.ensures (prints.placed_as c.put-in-Two.ensures c.before-in-Two.ensures)
+pub returns-in_err-print-in-Two-2 : goal.returns-in_err-print-in-Two-2
+returns-in_err-print-in-Two-2 t c = λ s.
+    let w = two_pieces (names_in c.args.self.now) (marked c.args.marks.now) s (sym c.if-is_marked.ensures) c.at-part.result c.at-part.ensures c.flips.ensures c.flipped-turned.ensures c.in-Two.ensures in
+    adds_more w.text c.before-in-Two.ensures c.in_ok-extend_from_slice-in-Two.ensures
+    (adds_more refl refl (c.in_ok-print-in-Two.ensures w.former).ok
+    (adds_more refl c.between.ensures c.in_ok-extend_from_slice-in-Two-2.ensures
+    (adds_stop {a = part_text (names_in c.args.self.now) (marked c.args.marks.now) w.latter} _ refl refl (c.in_err-print-in-Two-2.ensures w.latter).full (err_from_is_err_and c.from_residual-in_err-print-in-Two-2.result c.from_residual-in_err-print-in-Two-2.ensures.1))))
+
+pub returns-in_ok-print-in-Two-2 : goal.returns-in_ok-print-in-Two-2
+returns-in_ok-print-in-Two-2 t c = λ s.
+    let w = two_pieces (names_in c.args.self.now) (marked c.args.marks.now) s (sym c.if-is_marked.ensures) c.at-part.result c.at-part.ensures c.flips.ensures c.flipped-turned.ensures c.in-Two.ensures in
+    adds_more w.text c.before-in-Two.ensures c.in_ok-extend_from_slice-in-Two.ensures
+    (adds_more refl refl (c.in_ok-print-in-Two.ensures w.former).ok
+    (adds_more refl c.between.ensures c.in_ok-extend_from_slice-in-Two-2.ensures
+    (adds_more refl refl (c.in_ok-print-in-Two-2.ensures w.latter).ok
+    (extended _ _ _ c.extend_from_slice-in-Two-3.ensures (sym c.after.ensures)))))

@@ -1,6 +1,6 @@
-use Rattle.std.proofs.Common.{sym}
+use Rattle.std.proofs.Common.{sym, ◌∙◌}
 use Rattle.rule.proofs.Rules.{rule_size}
 use Rattle.rule.proofs.rule.Rule.len.Goals as goal
 
 pub returns : goal.returns
-returns c = sym (rule_size c.args.self.now)
+returns c = c.len.ensures.value ∙ sym (rule_size c.args.self.now)

@@ -2,7 +2,7 @@ use Rattle.std.proofs.lemmas.Result.{err_from_is_err_and}
 use Rattle.names.specs.Lists.{names_of}
 use Rattle.names.specs.Naming.{spellings}
 use Rattle.grammar.proofs.Laws.{laws}
-use Rattle.rule.proofs.Answered.{told, exit_told, names_fault, text_fault, parts_full, parts_few, parts_shape, parts_known, parts_rule}
+use Rattle.rule.proofs.Answered.{told, exit_told, names_fault, text_fault, parts_shape, parts_known, parts_rule}
 use Rattle.rule.proofs.rule.Rule.read.Goals as goal
 
 pub returns-in_err-list : goal.returns-in_err-list
@@ -22,14 +22,12 @@ invariant_of-result c =
     let l = c.in_ok-list.ensures in
     let h = c.in_ok-parts.ensures in
     record {
-      full = parts_full _ _ _ _ l.0 l.1 h;
-      few = parts_few _ _ _ _ l.0 l.1 h;
-      shape = parts_shape _ _ _ _ l.0 l.1 h;
-      known = parts_known _ _ _ _ l.0 l.1 h;
+      shape = parts_shape _ _ _ c.in_ok-parts.parts l.0 l.1 h;
+      known = parts_known _ _ _ c.in_ok-parts.parts l.0 l.1 h;
     }
 
 pub returns : goal.returns
 returns c =
     let l = c.in_ok-list.ensures in
-    let x = told _ _ _ (parts_rule _ _ _ _ l.0 l.1 c.in_ok-parts.ensures) in
+    let x = told _ _ _ (parts_rule _ _ _ c.in_ok-parts.parts l.0 l.1 c.in_ok-parts.ensures) in
     record { grammar = x.grammar; only = x.only; answer = x.answer; laws = laws; names = l.1 }

@@ -1,21 +1,14 @@
-use Rattle.std.proofs.Common.{arith}
-use Rattle.rule.proofs.Rules.{rule_has, rule_lacks}
-use Rattle.rule.proofs.Toward.{around_whole, around_within, around_done}
+use Rattle.std.proofs.Common.{arith, ap, ◌∙◌, Some, None}
+use Rattle.std.proofs.lemmas.Bool.{cond_below}
+use Rattle.grammar.specs.Signs as signs
+use Rattle.rule.specs.Rules.{form_in}
+use Rattle.rule.proofs.Toward.{around_whole, around_done}
 use Rattle.rule.proofs.rule.Rule.sign.Goals as goal
 
-pub returns-then-number-self : goal.returns-then-number-self
-returns-then-number-self c = rule_lacks c.args.self.now c.args.number _ c.if-number-self.true
-
 pub loop-at-init : goal.loop-at-init
-loop-at-init c = around_whole c.args.self.now c.args.number c.if-number-self.false
-
-pub toward-next-requires : goal.toward-next-requires
-toward-next-requires c = record {
-  inside = around_within c.args.self.now c.args.number c.loop-at.at _ c.loop-at.invariant;
-  below = omega arith;
-}
+loop-at-init c = around_whole _ c.args.number c.len-at.ensures (omega (arith, c.len.ensures, c.len-at.ensures))
 
 pub returns : goal.returns
 returns c =
-    rule_has c.args.self.now c.args.number _ _ c.if-number-self.false
-    (around_done c.args.self.now c.args.number c.loop-at.at _ c.loop-at.invariant c.loop-at-test.false)
+    ap Some (around_done c.loop-at.invariant c.loop-at-test.false)
+    ∙ cond_below _ _ (Some (signs.sign (form_in c.args.self.now) c.args.number)) None (omega (arith, c.len.ensures))

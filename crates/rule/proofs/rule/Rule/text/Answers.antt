@@ -1,0 +1,6 @@
+use Rattle.rule.specs.Rules.{form_in}
+use Rattle.rule.proofs.Printings.{struck_nothing}
+use Rattle.rule.proofs.rule.Rule.text.Goals as goal
+
+pub returns : goal.returns
+returns c = rw (struck_nothing (form_in c.args.self.now)) at c.line.ensures
