@@ -39,6 +39,7 @@ impl<F: Flow> NamedFlow<'_, F> {
     fn write_labels<W: fmt::Write>(&self, f: &mut fmt::Formatter<W>, s: u16) -> fmt::Result
         ensures { WritesOnOk W.write_str_gives f.old result (label_words (F.Flow.meaning self.now.flow.now) (texts self.now.names.now) s 0 32) f.new }
     {
+        // Here and below a number is what the flow is asked for: it hands out no list.
         for l in 0..32 {
             self.write_label(f, s, l)?;
         }
@@ -80,6 +81,7 @@ impl<F: Flow> fmt::Display for NamedFlow<'_, F> {
     }
 }
 
+// A word that is there or not, and no type of its own.
 fn start_mark(start: bool) -> &'static str
     ensures { result.now ≡ start_word start }
 {

@@ -44,6 +44,9 @@ impl FillFault {
     }
 }
 
+// Two enums with the same question and no trait over them: nothing takes a fault of any kind, and their numbers are the
+// documented ones, which no order of cases gives.
+
 /// Why a row of seats is refused.
 #[derive(Clone, Copy, Debug, PartialEq, Eq, Hash)]
 pub enum RowFault {

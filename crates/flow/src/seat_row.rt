@@ -112,6 +112,7 @@ impl Flow for SeatRow {
         if s >= self.count() {
             return false;
         }
+        // Labels are numbers that the caller passes: the seats that each asks for stand here once.
         match l {
             0 => self.some_seat(s, Seat::Free),
             1 => self.some_seat(s, Seat::Held),

@@ -34,7 +34,7 @@ fn is_name(bytes: &[u8]) -> bool
 impl Name {
     ghost use Rattle.names.specs.Naming.{Named, bytes_of};
 
-    // The name of these bytes, where they are one.
+    // The name of these bytes, where they are one. `None` and no error type, which would have nothing to say.
     pub fn new(bytes: &[u8]) -> Option<Name>
         ensures { Named bytes.now result }
     {

@@ -32,7 +32,8 @@ impl Names {
         }
     }
 
-    // The list of these names, where they are legal, no more than 32 and none twice.
+    // The list of these names, where they are legal, no more than 32 and none twice. A constructor that refuses, and no
+    // `TryFrom`: its promise stands beside it.
     pub fn new(names: &[&[u8]]) -> Result<Names, NamesFault>
         ensures { Listed (spellings names.now) result }
     {
@@ -53,6 +54,7 @@ impl Names {
     fn fresh(&self, bytes: &[u8]) -> Option<Name>
         ensures { Fresh (names_of self.now) bytes.now result }
     {
+        // Both cases give an answer of their own; `is_some` and a second branch would be no plainer.
         match self.find(bytes) {
             Some(_) => None,
             None => Name::new(bytes),
@@ -78,7 +80,7 @@ impl Names {
             .map(|name| name.bytes())
     }
 
-    // The label of a name.
+    // The label of a name. The list is looked through: a map of 32 names in fixed memory would be no plainer.
     #[tactic(auto, using(crate::proofs::Namings::meant_position))]
     pub fn find(&self, name: &[u8]) -> Option<u8>
         ensures label { meant 0 (names_of self.now) name.now ≡ found result }

@@ -7,8 +7,9 @@ ghost use Rattle.words.specs.Kinds.{part_of};
 use words::Kind;
 
 // A part: its kind, and for a label its number. The number stands beside the kind and not in it: a kind with a number
-// would be no index into the one table of kinds, and `of(Kind::Label)` is a part, the label 0.
-#[derive(Clone, Copy, Debug, PartialEq, Eq, Hash)]
+// would be no index into the one table of kinds, and `of(Kind::Label)` is a part, the label 0. It derives no comparison,
+// which would read the number of other kinds too.
+#[derive(Clone, Copy, Debug)]
 pub struct Part {
     pub kind: Kind,
     // 0 in other kinds than a label's, and not read there.

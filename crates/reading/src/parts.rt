@@ -43,8 +43,7 @@ impl Parts {
 pub fn named(names: &Names, name: &[u8]) -> Part
     ensures { form_parts (meant 0 (names_of names.now) name.now) ≡ parting result ∷ [] }
 {
-    match names.find(name) {
-        Some(label) => Part::of_label(label),
-        None => Part::of(Kind::False),
-    }
+    names
+        .find(name)
+        .map_or(Part::of(Kind::False), Part::of_label)
 }

@@ -14,6 +14,7 @@ mod writing;
 
 /// A house rule: 1 to 64 parts, operands before their operator and all of the left before all of the right, which are
 /// those of one tree, with the names of its labels. It is made whole, so whoever holds one never has to ask for its shape.
+// A list in post-order and no tree of boxes: the core does not allocate.
 #[derive(Clone, Copy)]
 pub struct Rule {
     parts: FixedVec<Part, 64>,

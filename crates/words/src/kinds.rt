@@ -31,7 +31,7 @@ pub enum Binding {
     Atom,
 }
 
-// What the table says of one kind.
+// What the table says of one kind. Nothing compares or shows a row, so it derives no more.
 #[derive(Clone, Copy)]
 struct KindRow {
     operands: u8,

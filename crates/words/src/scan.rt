@@ -11,7 +11,7 @@ use crate::word::Word;
 fn is_inner(b: u8) -> bool
     ensures { result ≡ inner b }
 {
-    matches!(b as char, 'a'..='z' | 'A'..='Z' | '0'..='9' | '_')
+    is_letter(b) || matches!(b as char, '0'..='9' | '_')
 }
 
 pub fn is_letter(b: u8) -> bool

@@ -41,10 +41,9 @@ impl Rule {
     fn word(&self, part: Part) -> &[u8]
         ensures { result.now ≡ word_for (names_in self.now) (parting part) }
     {
-        match part.label() {
-            Some(label) => self.names.get(label).unwrap_or(b""),
-            None => part.kind.before(),
-        }
+        part.label()
+            .and_then(|label| self.names.get(label))
+            .unwrap_or(part.kind.before())
     }
 
     // Adds the text of the part `root`, whose sign is `sign`, to a line; refused where the line is too short for it.
