@@ -96,7 +96,8 @@ impl Rule {
     }
 
     /// Writes the rule with the marked parts struck, each as its constant alone, and answers the length.
-    /// A buffer that is too short stays as it was, and the length is 0. The text reads back as the struck rule.
+    /// A buffer that is too short stays as it was, and the length is 0, the documented answer of every call that writes.
+    /// The text reads back as the struck rule.
     pub fn write_struck(&self, marks: &[u8], out: &mut [u8]) -> usize
         ensures length { result ≡ length_in (struck_text marks.now self.now) out.old }
         ensures bytes { out.new ≡ put_into (struck_text marks.now self.now) out.old }
