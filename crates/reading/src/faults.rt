@@ -58,6 +58,7 @@ impl From<GrammarFault> for RuleFault {
 }
 
 impl RuleFault {
+    // The number under which the refusal is documented.
     pub fn number(self) -> u8
         ensures { result ≡ number_of self }
     {
