@@ -18,6 +18,7 @@ pub struct Tally {
 
 impl Tally {
     /// The counts of both together; each sum stops at the largest `u32`.
+    // Not `+`, of which nobody expects that it stops.
     pub fn plus(self, other: Tally) -> Tally
         ensures { result ≡ both_of self other }
     {
