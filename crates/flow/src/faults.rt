@@ -17,6 +17,8 @@ pub enum FillFault {
     NoStart,
 }
 
+// Numbers and places stay beside the cases, by a rule of the project: they are how the documents and other programs name a
+// refusal.
 impl FillFault {
     /// The number under which the refusal is documented.
     pub fn number(self) -> u16

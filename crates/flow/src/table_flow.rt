@@ -12,7 +12,7 @@ use tables::Tables;
 
 /// A flow over four tables, which it borrows: 32 label bits a state, a start byte a state, the moves of all states one
 /// after the other, and the bounds. State `s` has the moves from `bounds[s]` up to but not including `bounds[s + 1]`.
-// No `Copy` and no comparison: contracts see the tables as lists, which do not give the slices back.
+// No `Clone` and no `==`: the checker derives neither here, over ghost fields and a view that does not give its fields back.
 #[derive(Debug, Drop)]
 pub struct TableFlow<'a> {
     tables: Tables<'a>,
