@@ -14,7 +14,8 @@ use std::alloc::{AllocError, Global};
 use std::fmt;
 pub use sums::tally;
 
-// A flow and the names of its labels: entry `l` names label `l`. It shows as its chart.
+// A flow and the names of its labels: entry `l` names label `l`. It shows as its chart. Each method promises the bytes that
+// it writes itself, in std's word for that.
 #[derive(Drop)]
 struct NamedFlow<'a, F> {
     flow: &'a F,
@@ -29,6 +30,7 @@ impl<F: Flow> NamedFlow<'_, F> {
         if !self.flow.carries(s, l) {
             return Ok(());
         }
+        // A match: each case writes something else.
         match self.names.get(l as usize) {
             Some(name) => write!(f, " {name}"),
             None => write!(f, " {l}"),

@@ -110,6 +110,7 @@ impl Flow for TableFlow<'_> {
     fn next(&self, s: u16, k: u16) -> u16
         ensures { result ≡ slice_index ((table_meaning self.now.tables).nexts s) k }
     {
+        // 0 beyond the range is the documented answer.
         self.moves_of(s).get(k as usize).copied().unwrap_or(0)
     }
 

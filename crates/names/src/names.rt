@@ -13,7 +13,7 @@ use fixed_vec::FixedVec;
 // The most names of a list.
 const MOST_NAMES: usize = 32;
 
-// At most 32 legal names, none twice. Entry i names label i.
+// At most 32 legal names, none twice. Entry i names label i. It compares and shows nothing, as `FixedVec` does not.
 #[derive(Clone, Copy)]
 pub struct Names {
     entries: FixedVec<Name, 32>,
@@ -41,6 +41,7 @@ impl Names {
             return Err(NamesFault::Many);
         }
         let mut list = Names::none();
+        // The number is the place of a fault.
         for (i, bytes) in names.iter().enumerate() {
             let Some(name) = list.fresh(bytes) else {
                 return Err(NamesFault::Entry(i));

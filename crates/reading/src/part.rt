@@ -17,14 +17,15 @@ pub struct Part {
 }
 
 impl Part {
-    // The part of that kind; of a label the one with the number 0.
+    // The part of that kind; of a label the one with the number 0. A constructor and no `From<Kind>`, which would hide that
+    // number.
     pub fn of(kind: Kind) -> Part
         ensures { parting result ≡ part_of kind 0 }
     {
         Part { kind, label: 0 }
     }
 
-    // The label with that number.
+    // The label with that number. No `From<u8>`: a number says nothing of labels.
     pub fn of_label(label: u8) -> Part
         ensures { parting result ≡ known label }
     {

@@ -34,6 +34,7 @@ impl<'a> Model for Tables<'a> {
 }
 
 impl<'a> Tables<'a> {
+    // Four parameters, as the public calls have them.
     pub(super) fn new(
         labels: &'a [u32],
         starts: &'a [u8],

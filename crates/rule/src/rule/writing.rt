@@ -1,4 +1,4 @@
-// Writing a rule into the caller's buffer.
+// Writing a rule into the caller's buffer. Its text is bytes, as the caller's names are, so a rule has no `Display`.
 ghost use Rattle.std.specs.Prelude.{◌≡◌, ◌≤◌, length};
 ghost use Rattle.fixed_vec.specs.FixedVec.{items};
 ghost use Rattle.grammar.specs.Reading.{answer_of};
@@ -10,14 +10,11 @@ ghost use Rattle.rule.specs.Signing.{signing};
 ghost use Rattle.rule.specs.Walks.{Stands};
 
 use crate::operands::Operands;
-use crate::rule::Rule;
+use crate::rule::{LINE, Rule};
 use crate::sign::Sign;
 use fixed_vec::{FixedVec, Full};
 use reading::Part;
 use words::Kind;
-
-// The length of a line that takes the text of every rule.
-const LINE: usize = 1024;
 
 // Whether a row of marks strikes the part with that number. A part past the row is not struck.
 fn is_marked(marks: &[u8], number: usize) -> bool
@@ -55,7 +52,8 @@ impl Rule {
         line: &mut FixedVec<u8, LINE>,
     ) -> Result<(), Full>
         requires { Stands (form_in self.now) root (signing sign) }
-        ensures { (s : Stands (form_in self.now) root (signing sign)) → Adds (part_text (names_in self.now) (marked marks.now) s) (items line.old) (items line.new) result }
+        ensures { (s : Stands (form_in self.now) root (signing sign))
+            → Adds (part_text (names_in self.now) (marked marks.now) s) (items line.old) (items line.new) result }
     {
         if is_marked(marks, root) {
             return line.extend_from_slice(constant(sign));
