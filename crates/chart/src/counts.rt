@@ -17,7 +17,7 @@ pub struct Tally {
 }
 
 impl Tally {
-    /// The counts of both together; each sum stops at the largest `u32`.
+    /// The counts of both together; each sum stops at the largest `u32`, so it is no `+`.
     pub fn plus(self, other: Tally) -> Tally
         ensures { result ≡ both_of self other }
     {

@@ -14,7 +14,8 @@ use std::alloc::{AllocError, Global};
 use std::fmt;
 pub use sums::tally;
 
-// A flow and the names of its labels: entry `l` names label `l`. It shows as its chart.
+// A flow and the names of its labels: entry `l` names label `l`. It shows as its chart. Each method promises the bytes that
+// it writes itself, in std's word for that.
 #[derive(Drop)]
 struct NamedFlow<'a, F> {
     flow: &'a F,
@@ -29,6 +30,7 @@ impl<F: Flow> NamedFlow<'_, F> {
         if !self.flow.carries(s, l) {
             return Ok(());
         }
+        // A match: each case writes something else.
         match self.names.get(l as usize) {
             Some(name) => write!(f, " {name}"),
             None => write!(f, " {l}"),
@@ -39,6 +41,7 @@ impl<F: Flow> NamedFlow<'_, F> {
     fn write_labels<W: fmt::Write>(&self, f: &mut fmt::Formatter<W>, s: u16) -> fmt::Result
         ensures { WritesOnOk W.write_str_gives f.old result (label_words (F.Flow.meaning self.now.flow.now) (texts self.now.names.now) s 0 32) f.new }
     {
+        // Here and below a number is what the flow is asked for: it hands out no list.
         for l in 0..32 {
             self.write_label(f, s, l)?;
         }
@@ -80,6 +83,7 @@ impl<F: Flow> fmt::Display for NamedFlow<'_, F> {
     }
 }
 
+// A word that is there or not, and no type of its own.
 fn start_mark(start: bool) -> &'static str
     ensures { result.now ≡ start_word start }
 {

@@ -11,6 +11,7 @@ pub struct Full;
 
 /// A list of at most `N` items, kept in the value itself.
 ///
+/// A buffer with its length, written once for all: the kit's `ArrayVec` is no `Copy` and asks for a default of its items.
 /// It derives no comparison, hash or `Debug`: those would read the places that are not in use. `as_slice` has them.
 #[derive(Copy)]
 pub struct FixedVec<T, const N: usize> {

@@ -17,6 +17,8 @@ pub enum FillFault {
     NoStart,
 }
 
+// Numbers and places stay beside the cases, by a rule of the project: they are how the documents and other programs name a
+// refusal.
 impl FillFault {
     /// The number under which the refusal is documented.
     pub fn number(self) -> u16
@@ -43,6 +45,9 @@ impl FillFault {
         }
     }
 }
+
+// Two enums with the same question and no trait over them: nothing takes a fault of any kind, and their numbers are the
+// documented ones, which no order of cases gives.
 
 /// Why a row of seats is refused.
 #[derive(Clone, Copy, Debug, PartialEq, Eq, Hash)]

@@ -11,7 +11,7 @@ pub enum Seat {
 }
 
 impl Seat {
-    /// The seat of a base-3 digit.
+    /// The seat of a base-3 digit. Every number has one, so it is no `TryFrom`.
     pub(crate) fn of_digit(digit: u16) -> Seat
         ensures { result ≡ seat_of digit }
     {
@@ -22,7 +22,7 @@ impl Seat {
         }
     }
 
-    /// Its base-3 digit in the number of a state.
+    /// Its base-3 digit in the number of a state: the documented one, said case by case and not by the order of the cases.
     pub(crate) fn digit(self) -> u16
         ensures { result ≡ digit_of self }
     {
@@ -33,26 +33,28 @@ impl Seat {
         }
     }
 
+    // What it can become, in order.
+    fn changes(self) -> &'static [Seat]
+        ensures { result.now ≡ becomes self }
+    {
+        match self {
+            Seat::Free => &[Seat::Held],
+            Seat::Held => &[Seat::Free, Seat::Sold],
+            Seat::Sold => &[],
+        }
+    }
+
     /// In how many ways it can change.
     pub(crate) fn ways(self) -> u16
         ensures { result ≡ length (becomes self) }
     {
-        match self {
-            Seat::Free => 1,
-            Seat::Held => 2,
-            Seat::Sold => 0,
-        }
+        self.changes().len() as u16
     }
 
     /// What it becomes by its `j`-th way, from 0; past the last it stays.
     pub(crate) fn nth_change(self, j: u16) -> Seat
         ensures { result ≡ slice_index_or (becomes self) j self }
     {
-        match (self, j) {
-            (Seat::Free, 0) => Seat::Held,
-            (Seat::Held, 0) => Seat::Free,
-            (Seat::Held, 1) => Seat::Sold,
-            _ => self,
-        }
+        self.changes().get(j as usize).copied().unwrap_or(self)
     }
 }

@@ -73,6 +73,7 @@ impl Flow for SeatRow {
     fn degree(&self, s: u16) -> u16
         ensures { result ≡ length ((row_meaning self.now.seats).nexts s) }
     {
+        // Each question has its own answer beyond the range, so it asks for the range itself, here and below.
         if s >= self.count() {
             return 0;
         }
@@ -112,6 +113,7 @@ impl Flow for SeatRow {
         if s >= self.count() {
             return false;
         }
+        // Labels are numbers that the caller passes: the seats that each asks for stand here once.
         match l {
             0 => self.some_seat(s, Seat::Free),
             1 => self.some_seat(s, Seat::Held),

@@ -12,6 +12,7 @@ use tables::Tables;
 
 /// A flow over four tables, which it borrows: 32 label bits a state, a start byte a state, the moves of all states one
 /// after the other, and the bounds. State `s` has the moves from `bounds[s]` up to but not including `bounds[s + 1]`.
+// No `Clone` and no `==`: the checker derives neither here, over ghost fields and a view that does not give its fields back.
 #[derive(Debug, Drop)]
 pub struct TableFlow<'a> {
     tables: Tables<'a>,
@@ -109,6 +110,7 @@ impl Flow for TableFlow<'_> {
     fn next(&self, s: u16, k: u16) -> u16
         ensures { result ≡ slice_index ((table_meaning self.now.tables).nexts s) k }
     {
+        // 0 beyond the range is the documented answer.
         self.moves_of(s).get(k as usize).copied().unwrap_or(0)
     }
 

@@ -55,6 +55,7 @@ mod tests {
         let labels = vec![in heap; u32::MAX; 1024]?;
         let starts = vec![in heap; 1u8; 1024]?;
         let moves = vec![in heap; 1023u16; 65536]?;
+        // A `for`: in a chain, that the product fits stays open.
         let mut bounds = Vec::new(heap);
         for s in 0..1025u32 {
             bounds.push(s * 64)?;

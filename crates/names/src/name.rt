@@ -7,6 +7,7 @@ use fixed_vec::FixedVec;
 use words::{Word, is_letter, past_run, spelling};
 
 // A legal name by value: a run of 1 to 16 letters, digits and underscores that begins with a letter and is not reserved.
+// Like the lists below and above it, it derives no comparison and no `Debug`, as `FixedVec` has none.
 #[derive(Clone, Copy)]
 pub struct Name {
     bytes: FixedVec<u8, 16>,
@@ -34,7 +35,7 @@ fn is_name(bytes: &[u8]) -> bool
 impl Name {
     ghost use Rattle.names.specs.Naming.{Named, bytes_of};
 
-    // The name of these bytes, where they are one.
+    // The name of these bytes, where they are one. `None` and no error type, which would have nothing to say.
     pub fn new(bytes: &[u8]) -> Option<Name>
         ensures { Named bytes.now result }
     {
@@ -42,7 +43,7 @@ impl Name {
             return None;
         }
         let mut kept = FixedVec::new(0);
-        kept.extend_from_slice(bytes).ok()?;
+        kept.extend_from_slice(bytes).unwrap();
         Some(Name { bytes: kept })
     }
 

@@ -13,7 +13,7 @@ use fixed_vec::FixedVec;
 // The most names of a list.
 const MOST_NAMES: usize = 32;
 
-// At most 32 legal names, none twice. Entry i names label i.
+// At most 32 legal names, none twice. Entry i names label i. It compares and shows nothing, as `FixedVec` does not.
 #[derive(Clone, Copy)]
 pub struct Names {
     entries: FixedVec<Name, 32>,
@@ -32,7 +32,8 @@ impl Names {
         }
     }
 
-    // The list of these names, where they are legal, no more than 32 and none twice.
+    // The list of these names, where they are legal, no more than 32 and none twice. A constructor that refuses, and no
+    // `TryFrom`: its promise stands beside it.
     pub fn new(names: &[&[u8]]) -> Result<Names, NamesFault>
         ensures { Listed (spellings names.now) result }
     {
@@ -40,6 +41,7 @@ impl Names {
             return Err(NamesFault::Many);
         }
         let mut list = Names::none();
+        // The number is the place of a fault.
         for (i, bytes) in names.iter().enumerate() {
             let Some(name) = list.fresh(bytes) else {
                 return Err(NamesFault::Entry(i));
@@ -53,6 +55,7 @@ impl Names {
     fn fresh(&self, bytes: &[u8]) -> Option<Name>
         ensures { Fresh (names_of self.now) bytes.now result }
     {
+        // Both cases give an answer of their own; `is_some` and a second branch would be no plainer.
         match self.find(bytes) {
             Some(_) => None,
             None => Name::new(bytes),
@@ -78,7 +81,7 @@ impl Names {
             .map(|name| name.bytes())
     }
 
-    // The label of a name.
+    // The label of a name. The list is looked through: a map of 32 names in fixed memory would be no plainer.
     #[tactic(auto, using(crate::proofs::Namings::meant_position))]
     pub fn find(&self, name: &[u8]) -> Option<u8>
         ensures label { meant 0 (names_of self.now) name.now ≡ found result }

@@ -57,7 +57,10 @@ impl From<GrammarFault> for RuleFault {
     }
 }
 
+// Numbers and places are the documented ones, which no order of cases gives. There is no trait over all faults, flows' and
+// rules', since nothing takes a fault of any kind.
 impl RuleFault {
+    // The number under which the refusal is documented.
     pub fn number(self) -> u8
         ensures { result ≡ number_of self }
     {

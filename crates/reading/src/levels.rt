@@ -83,7 +83,8 @@ impl Reader<'_> {
 
     // This level and the next stay two functions. One over the binding proves too, but is as long, chooses the level below
     // by a switch, and rules out the other bindings by a `requires`. One that takes the level below as a closure would
-    // want a number beside it, for the measure of the cycle alone.
+    // want a number beside it, for the measure of the cycle alone, and a trait of levels, with the sign, the operand and what
+    // is promised of both, more text than the two.
     #[cycle(levels)]
     fn read_or(&mut self) -> Result<(), GrammarFault>
         ensures { OrDone self.old self.new result }
@@ -121,7 +122,8 @@ impl Reader<'_> {
         Ok(())
     }
 
-    // The atom that the word at `at`, just taken, begins.
+    // The atom that the word at `at`, just taken, begins. The two alone: what `Seen` has besides, the place past the word, is
+    // used up.
     #[cycle(levels)]
     fn read_atom(&mut self, at: usize, word: Word<'_>) -> Result<(), GrammarFault>
         requires { strength (wording word) ≢ «some» unaries }

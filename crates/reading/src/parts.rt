@@ -12,7 +12,7 @@ use names::Names;
 use words::Kind;
 
 // The first 64 parts in their order, and how many there are in all: the grammar of a text with more is still read on,
-// while no further part is kept.
+// while no further part is kept. They compare and show nothing, as `FixedVec` does not.
 #[derive(Clone, Copy)]
 pub struct Parts {
     pub kept: FixedVec<Part, 64>,
@@ -39,12 +39,11 @@ impl Parts {
     }
 }
 
-// The part of a name: its label, or `false` where the list lacks it.
+// The part of a name: its label, or `false` where the list lacks it. No conversion: a name alone is no part.
 pub fn named(names: &Names, name: &[u8]) -> Part
     ensures { form_parts (meant 0 (names_of names.now) name.now) ≡ parting result ∷ [] }
 {
-    match names.find(name) {
-        Some(label) => Part::of_label(label),
-        None => Part::of(Kind::False),
-    }
+    names
+        .find(name)
+        .map_or(Part::of(Kind::False), Part::of_label)
 }

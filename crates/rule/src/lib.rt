@@ -5,9 +5,10 @@ mod operands;
 mod rule;
 mod sign;
 
+pub use fixed_vec::FixedVec;
 pub use names::NamesFault;
 pub use operands::Operands;
 pub use reading::{GrammarFault, Part, RuleFault};
-pub use rule::Rule;
+pub use rule::{LINE, Rule};
 pub use sign::Sign;
 pub use words::{Binding, Kind, WordFault};

@@ -12,8 +12,13 @@ mod parsing;
 mod walking;
 mod writing;
 
+/// The length of a line that takes the text of every rule.
+pub const LINE: usize = 1024;
+
 /// A house rule: 1 to 64 parts, operands before their operator and all of the left before all of the right, which are
 /// those of one tree, with the names of its labels. It is made whole, so whoever holds one never has to ask for its shape.
+// A list in post-order and no tree of boxes: the core does not allocate. It compares and shows nothing, as `FixedVec` does
+// not.
 #[derive(Clone, Copy)]
 pub struct Rule {
     parts: FixedVec<Part, 64>,

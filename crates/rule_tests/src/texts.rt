@@ -49,6 +49,22 @@ mod tests {
         assert_eq!(rt; ticket(b"  held&sold->!held  "), Ok(6));
     }
 
+    // How a refusal shows.
+    #[test]
+    fn shown_refusals(rt: HostRuntime) -> Result<(), Fail> {
+        for (text, shown) in [
+            (b"held % sold".as_slice(), "3 at 5"),
+            (b"AG".as_slice(), "5 at 2"),
+        ] {
+            let Err(fault) = Rule::read(&TICKET, text) else {
+                assert!(rt; false);
+                return Ok(());
+            };
+            assert_eq!(rt; fault.to_string(rt.alloc())?.as_str(), shown);
+        }
+        Ok(())
+    }
+
     #[test]
     fn texts_that_end_early(rt: HostRuntime) {
         assert_eq!(rt; ticket(b""), Err((5, 0)));

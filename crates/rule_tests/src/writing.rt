@@ -23,6 +23,17 @@ mod tests {
     }
 
     #[test]
+    fn text_as_a_value(rt: HostRuntime) -> Result<(), Fail> {
+        let Ok(rule) = Rule::read(&TICKET, b"held&sold") else {
+            assert!(rt; false);
+            return Ok(());
+        };
+        let text = rule.text();
+        assert!(rt; text.as_slice() == b"(held & sold)".as_slice());
+        Ok(())
+    }
+
+    #[test]
     fn forms(rt: HostRuntime) {
         assert!(rt; writes(b"true", &[0], b"true"));
         assert!(rt; writes(b"(((false)))", &[0], b"false"));

@@ -21,6 +21,7 @@ pub fn text_in(input: &[u8]) -> &[u8]
 pub fn rule_line(heap: Global, text: &[u8]) -> Result<Vec<u8>, AllocError>
     ensures { IfOk result (λ v. v.items ≡ rule_line (answer_of ticket_names text.now)) }
 {
+    // A match: each outcome has its own line to make, and both can want for memory.
     match Rule::read(&[b"held", b"sold"], text) {
         Ok(rule) => accepted(heap, &rule),
         Err(fault) => refusal(heap, fault),

@@ -31,7 +31,7 @@ pub enum Binding {
     Atom,
 }
 
-// What the table says of one kind.
+// What the table says of one kind. Nothing compares or shows a row, so it derives no more.
 #[derive(Clone, Copy)]
 struct KindRow {
     operands: u8,
@@ -77,7 +77,8 @@ const UNTIL: KindRow = KindRow {
     ..ATOM
 };
 
-// A row for each kind, in the order of `Kind`: what is as in the rows above is not said again.
+// A row for each kind, in the order of `Kind`, which is its index: the one table that all who read kinds read. A `match` from
+// kind to row would list the kinds a second time. What is as in the rows above is not said again.
 const KINDS: [KindRow; 15] = [
     // True
     KindRow {

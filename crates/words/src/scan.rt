@@ -11,7 +11,7 @@ use crate::word::Word;
 fn is_inner(b: u8) -> bool
     ensures { result ≡ inner b }
 {
-    matches!(b as char, 'a'..='z' | 'A'..='Z' | '0'..='9' | '_')
+    is_letter(b) || matches!(b as char, '0'..='9' | '_')
 }
 
 pub fn is_letter(b: u8) -> bool
@@ -20,7 +20,8 @@ pub fn is_letter(b: u8) -> bool
     matches!(b as char, 'a'..='z' | 'A'..='Z')
 }
 
-// Whether two stretches hold the same bytes: `==` of slices, said by the grammar's own definition.
+// Whether two stretches hold the same bytes: `==` of slices, said by the grammar's own definition. It is public and stays
+// for that, though nothing here calls it.
 pub fn equal(a: &[u8], b: &[u8]) -> bool
     ensures { result ≡ same a.now b.now }
 {

@@ -13,7 +13,8 @@ const MOST_STATES: usize = 1024;
 // The most moves that a state may have.
 const MOST_MOVES: u32 = 64;
 
-// The four tables. Contracts see them as four lists, of sizes that fit together.
+// The four tables, as the caller hands them over: four, and not one of rows. Contracts see them as four lists, of sizes
+// that fit together.
 #[derive(Debug, Drop)]
 pub(super) struct Tables<'a> {
     pub(super) labels: &'a [u32],
@@ -33,6 +34,7 @@ impl<'a> Model for Tables<'a> {
 }
 
 impl<'a> Tables<'a> {
+    // Four parameters, as the public calls have them.
     pub(super) fn new(
         labels: &'a [u32],
         starts: &'a [u8],

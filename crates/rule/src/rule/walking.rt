@@ -57,7 +57,7 @@ impl Rule {
     }
 
     // A part that the rule has. The rule and a number below its length stay two values here and below: a struct of both
-    // would be made anew for each operand.
+    // would be made anew for each operand, in six places where a number less one does.
     pub(super) fn at(&self, number: usize) -> Part
         requires { number < size (form_in self.now) }
         ensures { slice_index_or (parts (form_in self.now)) number always ≡ parting result }

@@ -1,4 +1,4 @@
-// Writing a rule into the caller's buffer.
+// Writing a rule into the caller's buffer. Its text is bytes, as the caller's names are, so a rule has no `Display`.
 ghost use Rattle.std.specs.Prelude.{◌≡◌, ◌≤◌, length};
 ghost use Rattle.fixed_vec.specs.FixedVec.{items};
 ghost use Rattle.grammar.specs.Reading.{answer_of};
@@ -10,14 +10,11 @@ ghost use Rattle.rule.specs.Signing.{signing};
 ghost use Rattle.rule.specs.Walks.{Stands};
 
 use crate::operands::Operands;
-use crate::rule::Rule;
+use crate::rule::{LINE, Rule};
 use crate::sign::Sign;
 use fixed_vec::{FixedVec, Full};
 use reading::Part;
 use words::Kind;
-
-// The length of a line that takes the text of every rule.
-const LINE: usize = 1024;
 
 // Whether a row of marks strikes the part with that number. A part past the row is not struck.
 fn is_marked(marks: &[u8], number: usize) -> bool
@@ -41,10 +38,9 @@ impl Rule {
     fn word(&self, part: Part) -> &[u8]
         ensures { result.now ≡ word_for (names_in self.now) (parting part) }
     {
-        match part.label() {
-            Some(label) => self.names.get(label).unwrap_or(b""),
-            None => part.kind.before(),
-        }
+        part.label()
+            .and_then(|label| self.names.get(label))
+            .unwrap_or(part.kind.before())
     }
 
     // Adds the text of the part `root`, whose sign is `sign`, to a line; refused where the line is too short for it.
@@ -56,7 +52,8 @@ impl Rule {
         line: &mut FixedVec<u8, LINE>,
     ) -> Result<(), Full>
         requires { Stands (form_in self.now) root (signing sign) }
-        ensures { (s : Stands (form_in self.now) root (signing sign)) → Adds (part_text (names_in self.now) (marked marks.now) s) (items line.old) (items line.new) result }
+        ensures { (s : Stands (form_in self.now) root (signing sign))
+            → Adds (part_text (names_in self.now) (marked marks.now) s) (items line.old) (items line.new) result }
     {
         if is_marked(marks, root) {
             return line.extend_from_slice(constant(sign));
@@ -97,7 +94,8 @@ impl Rule {
     }
 
     /// Writes the rule with the marked parts struck, each as its constant alone, and answers the length.
-    /// A buffer that is too short stays as it was, and the length is 0. The text reads back as the struck rule.
+    /// A buffer that is too short stays as it was, and the length is 0, the documented answer of every call that writes.
+    /// The text reads back as the struck rule.
     pub fn write_struck(&self, marks: &[u8], out: &mut [u8]) -> usize
         ensures length { result ≡ length_in (struck_text marks.now self.now) out.old }
         ensures bytes { out.new ≡ put_into (struck_text marks.now self.now) out.old }
