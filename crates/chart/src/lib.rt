@@ -15,7 +15,7 @@ use std::fmt;
 pub use sums::tally;
 
 // A flow and the names of its labels: entry `l` names label `l`. It shows as its chart. Each method promises the bytes that
-// it writes itself, in std's word for that.
+// it writes itself, in std's word for that: no invariant of the struct could say it for them.
 #[derive(Drop)]
 struct NamedFlow<'a, F> {
     flow: &'a F,
@@ -83,7 +83,7 @@ impl<F: Flow> fmt::Display for NamedFlow<'_, F> {
     }
 }
 
-// A word that is there or not, and no type of its own.
+// A word that is there or not: a type of its own would be no plainer.
 fn start_mark(start: bool) -> &'static str
     ensures { result.now ≡ start_word start }
 {

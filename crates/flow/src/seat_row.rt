@@ -73,7 +73,7 @@ impl Flow for SeatRow {
     fn degree(&self, s: u16) -> u16
         ensures { result ≡ length ((row_meaning self.now.seats).nexts s) }
     {
-        // Each question has its own answer beyond the range, so it asks for the range itself, here and below.
+        // Each question has its own documented answer beyond the range, here 0, so it asks for the range itself, here and below.
         if s >= self.count() {
             return 0;
         }

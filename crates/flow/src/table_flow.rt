@@ -104,6 +104,7 @@ impl Flow for TableFlow<'_> {
     fn degree(&self, s: u16) -> u16
         ensures { result ≡ length ((table_meaning self.now.tables).nexts s) }
     {
+        // So 0 beyond the range, the documented answer.
         self.moves_of(s).len() as u16
     }
 

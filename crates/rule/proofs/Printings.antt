@@ -145,8 +145,8 @@ module _ (r : Rule) (marks : ℕ → Bool) where
   both : (length (written (names_in r) (struck marks (form_in r))) ≤ 709) × (answer_of (names_in r) (written (names_in r) (struck marks (form_in r))) ≡ the_rule (struck marks (form_in r)))
   both = struck_back (names_in r) (form_in r) marks (rule_names r) (rule_known r) (rule_few r)
 
-  pub struck_short : length (written (names_in r) (struck marks (form_in r))) ≤ 1024
-  struck_short = omega (arith, both.0)
+  pub struck_short : length (written (names_in r) (struck marks (form_in r))) ≤ 709
+  struck_short = both.0
 
   pub struck_again : answer_of (names_in r) (written (names_in r) (struck marks (form_in r))) ≡ the_rule (struck marks (form_in r))
   struck_again = both.1

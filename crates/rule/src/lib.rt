@@ -5,7 +5,7 @@ mod operands;
 mod rule;
 mod sign;
 
-pub use fixed_vec::FixedVec;
+pub use fixed_vec::{FixedVec, Full};
 pub use names::NamesFault;
 pub use operands::Operands;
 pub use reading::{GrammarFault, Part, RuleFault};

@@ -31,9 +31,7 @@ mod tests {
     ) -> Result<Vec<u8>, AllocError> {
         let mut bytes = vec![in heap; left; count]?;
         bytes.extend_from_slice(text)?;
-        for _ in 0..last {
-            bytes.push(right)?;
-        }
+        bytes.extend_from_slice(&vec![in heap; right; last]?)?;
         Ok(bytes)
     }
 

@@ -86,6 +86,7 @@ mod tests {
     // The name of 16 bytes, so many times with arrows between, under `AG`.
     fn arrows(heap: Global, count: usize) -> Result<Vec<u8>, AllocError> {
         let mut text = Vec::from_slice(heap, b"AG (abcdefghijklmnop")?;
+        // A `for` that counts pieces: a chain of them would be copied once more.
         for _ in 1..count {
             text.extend_from_slice(b"->abcdefghijklmnop")?;
         }

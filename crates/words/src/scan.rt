@@ -20,8 +20,8 @@ pub fn is_letter(b: u8) -> bool
     matches!(b as char, 'a'..='z' | 'A'..='Z')
 }
 
-// Whether two stretches hold the same bytes: `==` of slices, said by the grammar's own definition. It is public and stays
-// for that, though nothing here calls it.
+// Whether two stretches hold the same bytes: `==` of slices, said by the grammar's own definition. Nothing here calls it; it
+// is public, and a public promise stays.
 pub fn equal(a: &[u8], b: &[u8]) -> bool
     ensures { result ≡ same a.now b.now }
 {

@@ -34,7 +34,7 @@ impl<'a> Model for Tables<'a> {
 }
 
 impl<'a> Tables<'a> {
-    // Four parameters, as the public calls have them.
+    // Four parameters, as the public calls have them: a struct for this call alone would be no plainer.
     pub(super) fn new(
         labels: &'a [u32],
         starts: &'a [u8],

@@ -70,6 +70,7 @@ impl Rule {
         requires { root < size (form_in self.now) }
         ensures { (p : signs.Sign) (s : Stands (form_in self.now) root p) → result ≡ s.first }
     {
+        // A count, as the table has it, here and below: an enum of arities would only rename it.
         match self.at(root).kind.operands() {
             0 => root,
             1 => self.first(root - 1),

@@ -12,7 +12,8 @@ use crate::words::Words;
 // The longest word in bytes.
 const LONGEST_WORD: usize = 16;
 
-// A byte of a text, by its place. Each method's promise is its own, and one definition: what begins here.
+// A byte of a text, by its place. Each method promises what begins here, by one definition: no invariant could say it for
+// them.
 #[derive(Clone, Copy)]
 struct Spot<'a> {
     text: &'a [u8],
