@@ -1,7 +1,7 @@
 //! A list in fixed memory: an array with the number of its places that are in use.
 #![tactic(auto)]
 
-ghost use Rattle.std.specs.Prelude.{◌≡◌, ◌≤◌, [], ◌∷◌, length, ⊤};
+ghost use Rattle.std.specs.Prelude.{◌≡◌, ◌≤◌, [], ◌∷◌, length, ⊤, MatchResult};
 
 use std::alloc::AllocError;
 
@@ -27,7 +27,9 @@ impl<T: Copy, const N: usize> Clone for FixedVec<T, N> {
 
     ghost is_infallible = { λ _. ⊤ };
 
-    fn clone(&self) -> Result<Self, AllocError> {
+    fn clone(&self) -> Result<Self, AllocError>
+        ensures { MatchResult result (λ v. v ≡ self.now) (λ _. ¬ ⊤) }
+    {
         Ok(*self)
     }
 }

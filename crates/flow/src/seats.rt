@@ -1,5 +1,6 @@
 //! The seats of a state, one after the other.
-ghost use Rattle.std.specs.Iterator.{YieldsFirst, item_count};
+ghost use Rattle.std.specs.Prelude.{⊤};
+ghost use Rattle.std.specs.Iterator.{MakesProgress, YieldsFirst, item_count};
 ghost use Rattle.flow.specs.Seats.{seats_of};
 
 use crate::seat::Seat;
@@ -18,7 +19,10 @@ impl Iterator for Seats {
 
     ghost remaining = { item_count (λ x. seats_of x.left x.state) };
 
-    fn next(&mut self) -> Option<Seat> {
+    fn next(&mut self) -> Option<Seat>
+        ensures steps { YieldsFirst (λ x. seats_of x.left x.state) self.old result self.new }
+        ensures goes { MakesProgress (λ _. ⊤) (item_count (λ x. seats_of x.left x.state)) self.old result self.new }
+    {
         self.left = self.left.checked_sub(1)?;
         let digit = self.state % 3;
         self.state /= 3;

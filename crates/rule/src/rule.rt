@@ -1,9 +1,14 @@
 // The rule: a tree of parts with a name list.
-ghost use Rattle.std.specs.Prelude.{◌≡◌, true, length};
+ghost use Rattle.std.specs.Prelude.{◌≡◌, ◌<◌, true, length, slice_index_or};
+ghost use Rattle.grammar.specs.Forms.{parts, size};
+ghost use Rattle.grammar.specs.Forms.Part.{always};
+ghost use Rattle.grammar.specs.Numbering.{operands_in};
 ghost use Rattle.grammar.specs.Shape.{is_tree, labelled};
-ghost use Rattle.reading.specs.Holding.{parts_in};
+ghost use Rattle.grammar.specs.Signs as signs;
+ghost use Rattle.reading.specs.Holding.{parting, parts_in};
 ghost use Rattle.names.specs.Lists.{names_of};
 
+use crate::operands::Operands;
 use fixed_vec::FixedVec;
 use names::Names;
 use reading::Part;
@@ -25,4 +30,52 @@ pub struct Rule {
     names: Names,
     ghost shape: { is_tree (parts_in parts) ≡ true },
     ghost known: { labelled (length (names_of names)) (parts_in parts) ≡ true },
+}
+
+// What reading by number and writing both go by. A number here is that of a part that the rule has.
+impl Rule {
+    ghost use Rattle.rule.specs.Rules.{form_in};
+    ghost use Rattle.rule.specs.Signing.{operanding};
+    ghost use Rattle.rule.specs.Walks.{Stands};
+
+    // A part that the rule has. The rule and a number below its length stay two values here and below: a struct of both
+    // would be made anew for each operand, in six places where a number less one does.
+    fn at(&self, number: usize) -> Part
+        requires { number < size (form_in self.now) }
+        ensures { slice_index_or (parts (form_in self.now)) number always ≡ parting result }
+    {
+        self.parts.as_slice()[number]
+    }
+
+    // The number of the first part inside the part `root`: that of its left operand, which ends before the right one's.
+    fn first(&self, root: usize) -> usize
+        requires { root < size (form_in self.now) }
+        ensures { (p : signs.Sign) (s : Stands (form_in self.now) root p) → result ≡ s.first }
+    {
+        // A count, as the table has it, here and below: an enum of arities would only rename it.
+        match self.at(root).kind.operands() {
+            0 => root,
+            1 => self.first(root - 1),
+            _ => {
+                let right = self.first(root - 1);
+                self.first(right - 1)
+            }
+        }
+    }
+
+    // The operands of a part that the rule has.
+    fn operands_of(&self, number: usize) -> Operands
+        requires { number < size (form_in self.now) }
+        ensures { operanding result ≡ operands_in (form_in self.now) number }
+    {
+        match self.at(number).kind.operands() {
+            0 => Operands::None,
+            1 => Operands::One(number - 1),
+            _ => {
+                let right = number - 1;
+                let left = self.first(right) - 1;
+                Operands::Two(left, right)
+            }
+        }
+    }
 }
