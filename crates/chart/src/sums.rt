@@ -8,7 +8,7 @@ use flow::Flow;
 fn starts<F: Flow>(flow: &F) -> u32
     ensures { result ≡ sum_from (start_at (F.Flow.meaning flow.now)) 0 (F.Flow.meaning flow.now).count }
 {
-    (0..flow.count()).filter(|&s| flow.is_start(s)).count() as u32
+    (0..flow.count()).map(|s| u32::from(flow.is_start(s))).sum()
 }
 
 fn moves<F: Flow>(flow: &F) -> u32

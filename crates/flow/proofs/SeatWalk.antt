@@ -1,11 +1,14 @@
 -- A walk over the seats of a state, from seat 0 up.
-use Rattle.std.proofs.Common.{◌≡◌, ℕ, zero, suc, ◌+◌, ◌-◌, ◌*◌, ◌/◌, ◌%◌, ◌^◌, ◌<◌, ◌≤◌, List, [], ◌∷◌, ◌++◌, map, length, get_or, slice_index, sum_by, sym, subst, refl, ap, ◌∙◌, ap₂, not-suc-le-zero, mod-lt, mul_assoc, mul_comm, mul-add, mul-le-mul_left, pow-suc, arith, lit≤, length-append}
+use Rattle.std.proofs.Common.{◌≡◌, ℕ, zero, suc, ◌+◌, ◌-◌, ◌*◌, ◌/◌, ◌%◌, ◌^◌, ◌<◌, ◌≤◌, false, not, ◌&&◌, List, [], ◌∷◌, ◌++◌, map, length, get_or, slice_index, sum_by, sym, subst, refl, ap, ◌∙◌, ap₂, not-suc-le-zero, mod-lt, mul_assoc, mul_comm, mul-add, mul-le-mul_left, pow-suc, div-one, arith, lit≤, length-append}
 use mathlib.Core.List.{map-map}
+use native.Mathlib.Nat.{div-div-eq-div-mul}
 use Rattle.std.proofs.lemmas.List.{map-append, length-map, get_or_past, get_or_append_left, get_or-append_right, get_or-map}
 use Rattle.std.proofs.lemmas.List.Sums.{sum_by-cons}
+use Rattle.std.proofs.lemmas.Bool.{and_right}
 use Rattle.flow.specs.declared.seat.Seat.{Seat}
+use Rattle.flow.specs.declared.seat.Seat.TheVariants.{Free, Held, Sold}
 use Rattle.flow.specs.SeatLimits.{nexts_in, power_some, power_few, length_seats, digit_small}
-use Rattle.flow.specs.Seats.{seat_of, digit_of, seats_of, state_of, becomes, changed, or_itself, row_meaning}
+use Rattle.flow.specs.Seats.{seat_of, digit_of, seats_of, state_of, becomes, changed, or_itself, row_meaning, some_seat, all_seats}
 
 -- in how many ways a seat can change
 abbrev pub ways : Seat → ℕ
@@ -25,6 +28,19 @@ digit_seat zero h = refl
 digit_seat (suc zero) h = refl
 digit_seat (suc (suc zero)) h = refl
 digit_seat (suc (suc (suc d))) h = absurd (omega arith)
+
+pub seat_digit : (x : Seat) → seat_of (digit_of x) ≡ x
+seat_digit Free = refl
+seat_digit Held = refl
+seat_digit Sold = refl
+
+-- seat i of a state is that of its base-3 digit i
+pub seat_at : (k s i : ℕ) → i < k → get_or (seats_of k s) i Sold ≡ seat_of ((s / 3 ^ i) % 3)
+seat_at zero s i h = absurd (omega arith)
+seat_at (suc k) s zero h = ap (λ (n : ℕ). seat_of (n % 3)) (sym (div-one s))
+seat_at (suc k) s (suc i) h =
+    let more : 3 * 3 ^ i ≡ 3 ^ suc i = mul_comm 3 (3 ^ i) ∙ sym (pow-suc 3 i) in
+    seat_at k (s / 3) i (omega arith) ∙ ap (λ (n : ℕ). seat_of (n % 3)) (div-div-eq-div-mul s 3 (3 ^ i) ∙ ap (λ (n : ℕ). s / n) more)
 
 -- a state is the state that has its seats
 state_seats : (k s : ℕ) → s < 3 ^ k → state_of (seats_of k s) ≡ s
@@ -130,12 +146,21 @@ few_or : (xs : List Seat) (yss : List (List Seat)) (j : ℕ) → length yss ≤ 
 few_or xs [] j h h' = h'
 few_or xs (ys ∷ yss) j h h' = h
 
+-- where some seat can change the next states are the changes, and else the state itself
+module _ (k s : ℕ) (b : s < 3 ^ k) where
+  pub nexts_changed : 0 < length (changed (seats_of k s)) → (row_meaning k).nexts s ≡ map state_of (changed (seats_of k s))
+  nexts_changed h = nexts_in k s b ∙ ap (map state_of) (or_some (seats_of k s) (changed (seats_of k s)) h)
+
+  pub nexts_itself : length (changed (seats_of k s)) ≡ 0 → (row_meaning k).nexts s ≡ s ∷ []
+  nexts_itself e =
+      nexts_in k s b
+      ∙ ap (map state_of) (or_none (seats_of k s) (changed (seats_of k s)) e)
+      ∙ ap (λ (n : ℕ). n ∷ []) (state_seats k s b)
+
 module _ (k s j : ℕ) (b : s < 3 ^ k) where
   -- the j-th next state, where the seats have a j-th change
   pub next_changed : j < length (changed (seats_of k s)) → slice_index ((row_meaning k).nexts s) j ≡ slice_index (map state_of (changed (seats_of k s))) j
-  next_changed h =
-      ap (λ (ns : List ℕ). slice_index ns j)
-      (nexts_in k s b ∙ ap (map state_of) (or_some (seats_of k s) (changed (seats_of k s)) (omega arith)))
+  next_changed h = ap (λ (ns : List ℕ). slice_index ns j) (nexts_changed k s b (omega arith))
 
   -- and where they have none, the first is the state itself
   module _ {w left : ℕ} {zs : List Seat} (e : zs ≡ []) (u : Walk (seats_of k s) s j w zs left) where
@@ -143,11 +168,16 @@ module _ (k s j : ℕ) (b : s < 3 ^ k) where
     none_left = let n = ap (λ (zs : List Seat). length (changed zs)) e in omega (arith, u.count)
 
     pub next_itself : j ≡ 0 → slice_index ((row_meaning k).nexts s) j ≡ s
-    next_itself z =
-        ap₂ slice_index (nexts_in k s b ∙ ap (map state_of) (or_none (seats_of k s) (changed (seats_of k s)) (omega (arith, none_left)))) z
-        ∙ state_seats k s b
+    next_itself z = ap₂ slice_index (nexts_itself k s b (omega (arith, none_left))) z
 
     pub next_none : (j ≡ 0 → ⊥) → slice_index ((row_meaning k).nexts s) j ≡ 0
     next_none n =
         get_or_past ((row_meaning k).nexts s) j 0
         (simp (nexts_in k s b, length-map) (few_or (seats_of k s) (changed (seats_of k s)) j (omega (arith, none_left)) (omega (arith, n))))
+
+-- all seats are sold where none is free and none held
+pub all_sold : (xs : List Seat) → all_seats Sold xs ≡ (not (some_seat Free xs) && not (some_seat Held xs))
+all_sold [] = refl
+all_sold (Free ∷ xs) = refl
+all_sold (Held ∷ xs) = sym (and_right (not (some_seat Free xs)) false refl)
+all_sold (Sold ∷ xs) = all_sold xs

@@ -1,6 +1,7 @@
 pub mod Meaning
 pub mod Lowest
 pub mod Tables
+pub mod Borrowed
 pub mod TableLimits
 pub mod Seats
 pub mod SeatLimits

@@ -22,6 +22,10 @@ pub use table_flow::TableFlow;
 pub trait Flow {
     ghost meaning: { Self → Meaning };
 
+    // Each kind of flow proves it, and code over any flow may lean on it. It stands above the questions, and so is no law:
+    // a law reaches no clause, and no caller of a `&dyn Flow`.
+    ghost limits: { (x : Self) → Limits (meaning x) };
+
     /// How many states there are.
     fn count(&self) -> u16
         ensures { result ≡ (meaning self.now).count };
@@ -41,7 +45,4 @@ pub trait Flow {
     /// Whether `s` carries the label `l`.
     fn carries(&self, s: u16, l: u8) -> bool
         ensures { result ≡ (meaning self.now).label l s };
-
-    // A law: each kind of flow proves it, and code over any flow may lean on it.
-    ghost limits: { (x : Self) → Limits (meaning x) };
 }

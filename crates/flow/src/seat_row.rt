@@ -9,6 +9,10 @@ use crate::faults::RowFault;
 use crate::seat::Seat;
 use crate::seats::Seats;
 
+// 3 to the power of `i` is how many states a row of `i` seats has. A table and no `pow`: nearly every question asks for
+// the count.
+const POWERS: [u16; 7] = [1, 3, 9, 27, 81, 243, 729];
+
 /// A row of 1 to 6 seats.
 #[derive(Clone, Copy, Debug, PartialEq, Eq, Hash, Drop)]
 pub struct SeatRow {
@@ -64,10 +68,12 @@ impl SeatRow {
 impl Flow for SeatRow {
     ghost meaning = { λ t. row_meaning t.seats };
 
+    ghost limits = { λ t. row_limits t.seats t.some t.few };
+
     fn count(&self) -> u16
         ensures { result ≡ (row_meaning self.now.seats).count }
     {
-        3u16.pow(u32::from(self.seats))
+        POWERS[self.seats as usize]
     }
 
     fn degree(&self, s: u16) -> u16
@@ -121,6 +127,4 @@ impl Flow for SeatRow {
             _ => false,
         }
     }
-
-    ghost limits = { λ t. row_limits t.seats t.some t.few };
 }

@@ -1,7 +1,8 @@
 //! A flow read from four tables of the caller.
 ghost use Rattle.std.specs.Prelude.{◌≡◌, true, [], ◌∷◌, length, slice_index, Ok, Err, OnOk, OnErr, IfOk, IfErr};
 ghost use Rattle.flow.specs.Meaning.{Alone};
-ghost use Rattle.flow.specs.Tables.{tables_of, table_meaning, some_marked, Sized, Stepped, Moving, Aimed};
+ghost use Rattle.flow.specs.Tables.{tables_of, table_meaning, some_marked, Stepped, Moving, Aimed};
+ghost use Rattle.flow.specs.Borrowed.{lists_in};
 ghost use Rattle.flow.specs.TableLimits.{table_limits};
 ghost use Rattle.flow.specs.Filling.{fill_answer};
 
@@ -12,26 +13,24 @@ use tables::Tables;
 
 /// A flow over four tables, which it borrows: 32 label bits a state, a start byte a state, the moves of all states one
 /// after the other, and the bounds. State `s` has the moves from `bounds[s]` up to but not including `bounds[s + 1]`.
-// No `Clone` and no `==`: the checker derives neither here, over ghost fields and a view that does not give its fields back.
+// No `Clone` and no `==`: nothing asks for them.
 #[derive(Debug, Drop)]
 pub struct TableFlow<'a> {
     tables: Tables<'a>,
-    // The invariant of `tables`, once more: the law `limits` sees the fields alone.
-    ghost sized: { Sized tables },
-    ghost stepped: { Stepped tables },
-    ghost moving: { Moving tables },
-    ghost aimed: { Aimed tables },
-    ghost begun: { some_marked tables ≡ true },
+    ghost stepped: { Stepped (lists_in tables) },
+    ghost moving: { Moving (lists_in tables) },
+    ghost aimed: { Aimed (lists_in tables) },
+    ghost begun: { some_marked (lists_in tables) ≡ true },
 }
 
 impl<'a> TableFlow<'a> {
     /// One state, which is a start and its own next state, without labels.
     pub fn fresh() -> TableFlow<'a>
-        ensures labels { result.tables.labels ≡ 0 ∷ [] }
-        ensures starts { result.tables.starts ≡ 1 ∷ [] }
-        ensures moves { result.tables.moves ≡ 0 ∷ [] }
-        ensures bounds { result.tables.bounds ≡ 0 ∷ 1 ∷ [] }
-        ensures meaning { Alone (table_meaning result.tables) }
+        ensures labels { result.tables.labels.now ≡ 0 ∷ [] }
+        ensures starts { result.tables.starts.now ≡ 1 ∷ [] }
+        ensures moves { result.tables.moves.now ≡ 0 ∷ [] }
+        ensures bounds { result.tables.bounds.now ≡ 0 ∷ 1 ∷ [] }
+        ensures meaning { Alone (table_meaning (lists_in result.tables)) }
     {
         TableFlow {
             tables: Tables {
@@ -52,7 +51,7 @@ impl<'a> TableFlow<'a> {
     ) -> Result<TableFlow<'a>, FillFault>
         ensures accepted { OnOk result (fill_answer (tables_of labels.now starts.now moves.now bounds.now) ≡ Ok tt) }
         ensures refused { IfErr result (λ e. fill_answer (tables_of labels.now starts.now moves.now bounds.now) ≡ Err e) }
-        ensures tables { IfOk result (λ t. t.tables ≡ tables_of labels.now starts.now moves.now bounds.now) }
+        ensures tables { IfOk result (λ t. lists_in t.tables ≡ tables_of labels.now starts.now moves.now bounds.now) }
     {
         let tables = Tables::new(labels, starts, moves, bounds)?;
         tables.check_bounds()?;
@@ -71,7 +70,7 @@ impl<'a> TableFlow<'a> {
         bounds: &'a [u32],
     ) -> Result<(), FillFault>
         ensures value { result ≡ fill_answer (tables_of labels.now starts.now moves.now bounds.now) }
-        ensures ok { OnOk result (self.new.tables ≡ tables_of labels.now starts.now moves.now bounds.now) }
+        ensures ok { OnOk result (lists_in self.new.tables ≡ tables_of labels.now starts.now moves.now bounds.now) }
         ensures err { OnErr result (self.new ≡ self.old) }
     {
         *self = TableFlow::new(labels, starts, moves, bounds)?;
@@ -80,7 +79,7 @@ impl<'a> TableFlow<'a> {
 
     // The moves of `s`; none where it is no state.
     fn moves_of(&self, s: u16) -> &[u16]
-        ensures { result.now ≡ (table_meaning self.now.tables).nexts s }
+        ensures { result.now ≡ (table_meaning (lists_in self.now.tables)).nexts s }
     {
         let s = s as usize;
         if s >= self.tables.labels.len() {
@@ -93,36 +92,38 @@ impl<'a> TableFlow<'a> {
 }
 
 impl Flow for TableFlow<'_> {
-    ghost meaning = { λ t. table_meaning t.tables };
+    ghost meaning = { λ t. table_meaning (lists_in t.tables) };
+
+    ghost limits = { λ t. table_limits (lists_in t.tables) t.tables.sized t.stepped t.moving t.aimed t.begun };
 
     fn count(&self) -> u16
-        ensures { result ≡ (table_meaning self.now.tables).count }
+        ensures { result ≡ (table_meaning (lists_in self.now.tables)).count }
     {
         self.tables.labels.len() as u16
     }
 
     fn degree(&self, s: u16) -> u16
-        ensures { result ≡ length ((table_meaning self.now.tables).nexts s) }
+        ensures { result ≡ length ((table_meaning (lists_in self.now.tables)).nexts s) }
     {
         // So 0 beyond the range, the documented answer.
         self.moves_of(s).len() as u16
     }
 
     fn next(&self, s: u16, k: u16) -> u16
-        ensures { result ≡ slice_index ((table_meaning self.now.tables).nexts s) k }
+        ensures { result ≡ slice_index ((table_meaning (lists_in self.now.tables)).nexts s) k }
     {
         // 0 beyond the range is the documented answer.
         self.moves_of(s).get(k as usize).copied().unwrap_or(0)
     }
 
     fn is_start(&self, s: u16) -> bool
-        ensures { result ≡ (table_meaning self.now.tables).start s }
+        ensures { result ≡ (table_meaning (lists_in self.now.tables)).start s }
     {
         self.tables.starts.get(s as usize).is_some_and(|&b| b != 0)
     }
 
     fn carries(&self, s: u16, l: u8) -> bool
-        ensures { result ≡ (table_meaning self.now.tables).label l s }
+        ensures { result ≡ (table_meaning (lists_in self.now.tables)).label l s }
     {
         l < 32
             && self
@@ -131,6 +132,4 @@ impl Flow for TableFlow<'_> {
                 .get(s as usize)
                 .is_some_and(|&word| (word >> l) % 2 == 1)
     }
-
-    ghost limits = { λ t. table_limits t.tables t.sized t.stepped t.moving t.aimed t.begun };
 }

@@ -2,5 +2,6 @@
 #![tactic(auto)]
 
 mod charts;
+mod limits;
 mod seat_rows;
 mod tables;

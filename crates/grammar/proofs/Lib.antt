@@ -11,6 +11,7 @@ pub mod Streams
 pub mod Trees
 pub mod Segments
 pub mod Places
+pub mod Owing
 pub mod Strikes
 pub mod Lists
 pub mod Rights

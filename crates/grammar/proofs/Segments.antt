@@ -1,5 +1,5 @@
 -- A stretch of a list, with the place where it begins.
-use Rattle.std.proofs.Common.{◌≡◌, ℕ, ◌+◌, ◌≤◌, List, [], ◌∷◌, ◌++◌, length, get_or, sym, refl, ap, ◌∙◌, append_assoc, append-nil, arith, length-append}
+use Rattle.std.proofs.Common.{◌≡◌, ℕ, ◌+◌, ◌≤◌, List, [], ◌∷◌, ◌++◌, length, get_or, take, sym, refl, ap, ◌∙◌, append_assoc, append-nil, arith, length-append, take_at}
 use lib.Seq.{get_or_at}
 
 module _ {X : Type 0} where
@@ -35,3 +35,9 @@ module _ {X : Type 0} where
 
   pub segment_fits : {xs ys : List X} {k : ℕ} → Segment xs k ys → k + length ys ≤ length xs
   segment_fits {xs} {ys} {k} s = omega (arith, s.at, simp length-append at (ap length s.is))
+
+  pub segment_take : {xs ys : List X} {k : ℕ} → Segment xs k ys → take (k + length ys) xs ≡ take k xs ++ ys
+  segment_take {xs} {ys} {k} s =
+      ap (take (k + length ys)) (s.is ∙ sym (append_assoc s.before ys s.after))
+      ∙ take_at (s.before ++ ys) s.after (k + length ys) (simp length-append (omega (arith, s.at)))
+      ∙ ap (λ l. l ++ ys) (sym (ap (take k) s.is ∙ take_at s.before (ys ++ s.after) k s.at))

@@ -9,6 +9,7 @@ ghost use Rattle.names.specs.Naming.{bytes_of, found, is_right, names_in, spelli
 use crate::faults::NamesFault;
 use crate::name::Name;
 use fixed_vec::FixedVec;
+use words::equal;
 
 // The most names of a list.
 const MOST_NAMES: usize = 32;
@@ -97,6 +98,6 @@ impl Names {
         self.entries
             .as_slice()
             .iter()
-            .position(|entry| entry.bytes() == name)
+            .position(|entry| equal(entry.bytes(), name))
     }
 }

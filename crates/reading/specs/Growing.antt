@@ -1,14 +1,14 @@
 -- The parts that were added while a text is read.
-use Rattle.std.specs.Prelude.{◌≡◌, ℕ, ◌-◌, ◌^◌, min, List, [], ◌∷◌, ◌++◌, length, take}
+use Rattle.std.specs.Prelude.{◌≡◌, ℕ, min, List, [], ◌∷◌, ◌++◌, length, take}
 use Rattle.grammar.specs.Forms as form
 use Rattle.grammar.specs.Grammar.{Tree}
 use Rattle.grammar.specs.Answering.{resolve}
 use Rattle.reading.specs.Holding.{parts_in}
 use Rattle.reading.specs.declared.parts.Parts.{Parts}
 
--- these parts are held, the first 64 of them; the count of all stops at the largest number that it can be
+-- these parts are held, the first 64 of them
 pub record Holds (s : Parts) (xs : List (form.Part ℕ)) : Type 0 where
-  pub counted : s.count ≡ min (length xs) (2 ^ 64 - 1)
+  pub counted : s.count ≡ min (length xs) 65
   pub kept : parts_in s.kept ≡ take 64 xs
 
 -- the parts of a tree, by the name list

@@ -1,9 +1,9 @@
 // The parts of a text that is being read.
-ghost use Rattle.std.specs.Prelude.{◌≡◌, [], ◌∷◌};
+ghost use Rattle.std.specs.Prelude.{◌≡◌, ◌≤◌, min, [], ◌∷◌, length};
+ghost use Rattle.fixed_vec.specs.FixedVec.{items};
 ghost use Rattle.grammar.specs.Forms.{parts as form_parts};
 ghost use Rattle.grammar.specs.Answering.{meant};
 ghost use Rattle.names.specs.Lists.{names_of};
-ghost use Rattle.reading.specs.Growing.{Added, Holds};
 ghost use Rattle.reading.specs.Holding.{parting};
 
 use crate::part::Part;
@@ -11,15 +11,19 @@ use fixed_vec::FixedVec;
 use names::Names;
 use words::Kind;
 
-// The first 64 parts in their order, and how many there are in all: the grammar of a text with more is still read on,
-// while no further part is kept. They compare and show nothing, as `FixedVec` does not.
+// The first 64 parts in their order, and how many there are. A count of 65 says that there are more than 64: the grammar
+// of the text is still read on then, while no further part is kept. They compare and show nothing, as `FixedVec` does not.
 #[derive(Clone, Copy)]
 pub struct Parts {
     pub kept: FixedVec<Part, 64>,
     pub count: usize,
+    ghost few: { count ≤ 65 },
+    ghost held: { length (items kept) ≡ min count 64 },
 }
 
 impl Parts {
+    ghost use Rattle.reading.specs.Growing.{Added, Holds};
+
     // No part yet.
     pub fn none() -> Parts
         ensures { Holds result [] }
@@ -30,11 +34,11 @@ impl Parts {
         }
     }
 
-    // Adds a part, or past 64 counts it alone.
+    // Adds a part, or past 64 notes that there are more.
     pub fn push(&mut self, part: Part)
         ensures { Added self.old self.new (parting part) }
     {
-        self.count = self.count.saturating_add(1);
+        self.count = (self.count + 1).min(65);
         let _ = self.kept.push(part);
     }
 }

@@ -1,7 +1,7 @@
 -- What a rule is, from what its type keeps: its parts are those of its form, and its names a name list.
-use Rattle.std.proofs.Common.{◌≡◌, ℕ, ◌<◌, ◌≤◌, cond, ltb, List, map, length, get_or, Some, None, Option, Bor, sym, ap, ◌∙◌, arith, length-take}
+use Rattle.std.proofs.Common.{◌≡◌, ℕ, ◌<◌, ◌≤◌, cond, ltb, List, map, length, get_or, Some, None, Option, Bor, refl, sym, ap, ◌∙◌, arith, length-take}
 use Rattle.std.specs.Option.{is_some, IfSome, option_copied, option_map}
-use Rattle.std.proofs.lemmas.Bool.{ltb-true}
+use Rattle.std.proofs.lemmas.Bool.{ltb-true, cond_below, cond_above}
 use Rattle.std.proofs.lemmas.List.{length-map, get_or-map}
 use Rattle.grammar.specs.Forms as form
 use Rattle.grammar.specs.Forms.Part.{always}
@@ -13,7 +13,7 @@ use Rattle.grammar.proofs.Rights.{right_fine}
 use Rattle.names.proofs.Namings.{is_right_lem}
 use Rattle.fixed_vec.specs.FixedVec.{items}
 use Rattle.reading.specs.Holding.{parting, parts_in}
-use Rattle.rule.specs.Rules.{form_in, names_in, part_at}
+use Rattle.rule.specs.Rules.{form_in, names_in, of_part, part_at}
 use Rattle.reading.specs.declared.part.Part.{Part}
 use Rattle.rule.specs.declared.rule.Rule.{Rule}
 
@@ -32,6 +32,13 @@ module _ (r : Rule) where
 
   pub rule_few : form.size (form_in r) ≤ 64
   rule_few = omega (arith, rule_size, length-take r.parts.len r.parts.places, r.parts.few)
+
+  -- what is said of a part that the rule has, and of one that it has not
+  pub rule_has : {B : Type 0} (i : ℕ) (x y : B) → i < form.size (form_in r) → x ≡ y → Some x ≡ of_part (form_in r) i y
+  rule_has i x y h e = ap Some e ∙ cond_below i (form.size (form_in r)) (Some y) None h
+
+  pub rule_lacks : {B : Type 0} (i : ℕ) (y : B) → form.size (form_in r) ≤ i → None ≡ of_part (form_in r) i y
+  rule_lacks i y h = cond_above i (form.size (form_in r)) (Some y) None None h refl
 
   -- the parts as a slice
   module _ (xs : List Part) (e : xs ≡ items r.parts) where

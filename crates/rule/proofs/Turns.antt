@@ -1,5 +1,5 @@
 -- What the table says of a kind, as what its part is.
-use Rattle.std.proofs.Common.{◌≡◌, ℕ, cond, refl, ap, ◌∙◌}
+use Rattle.std.proofs.Common.{◌≡◌, ℕ, ◌≤◌, cond, refl, ap, ◌∙◌, arith}
 use Rattle.grammar.specs.Forms.{Part, arity}
 use Rattle.grammar.specs.Forms.Part.{always, never, known, on_one, on_two}
 use Rattle.grammar.specs.Signs.{Sign, flip, under, left}
@@ -68,3 +68,21 @@ kind_turns Eg l p = refl
 kind_turns Ag l p = refl
 kind_turns Eu l p = refl
 kind_turns Au l p = refl
+
+-- no kind has more than two operands
+pub kind_few : (k : Kind) → arity_of k ≤ 2
+kind_few True = omega arith
+kind_few False = omega arith
+kind_few Label = omega arith
+kind_few Not = omega arith
+kind_few And = omega arith
+kind_few Or = omega arith
+kind_few Implies = omega arith
+kind_few Ex = omega arith
+kind_few Ax = omega arith
+kind_few Ef = omega arith
+kind_few Af = omega arith
+kind_few Eg = omega arith
+kind_few Ag = omega arith
+kind_few Eu = omega arith
+kind_few Au = omega arith

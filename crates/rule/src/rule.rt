@@ -1,5 +1,5 @@
 // The rule: a tree of parts with a name list.
-ghost use Rattle.std.specs.Prelude.{◌≡◌, ◌<◌, true, length, slice_index_or};
+ghost use Rattle.std.specs.Prelude.{◌≡◌, ◌<◌, ◌≤◌, true, length, slice_index_or};
 ghost use Rattle.grammar.specs.Forms.{parts, size};
 ghost use Rattle.grammar.specs.Forms.Part.{always};
 ghost use Rattle.grammar.specs.Numbering.{operands_in};
@@ -47,20 +47,22 @@ impl Rule {
         self.parts.as_slice()[number]
     }
 
-    // The number of the first part inside the part `root`: that of its left operand, which ends before the right one's.
+    // The number of the first part inside the part `root`.
     fn first(&self, root: usize) -> usize
         requires { root < size (form_in self.now) }
-        ensures { (p : signs.Sign) (s : Stands (form_in self.now) root p) → result ≡ s.first }
+        ensures low { result ≤ root }
+        ensures first { (p : signs.Sign) (s : Stands (form_in self.now) root p) → result ≡ s.first }
     {
-        // A count, as the table has it, here and below: an enum of arities would only rename it.
-        match self.at(root).kind.operands() {
-            0 => root,
-            1 => self.first(root - 1),
-            _ => {
-                let right = self.first(root - 1);
-                self.first(right - 1)
-            }
+        let parts = self.parts.as_slice();
+        let mut at = root + 1;
+        let mut owed = 1;
+        // Each part on the way back is owed by its operator and owes its operands. A loop, so that it is one step a part: a
+        // recursion from operand to operand is a call for each.
+        while owed > 0 {
+            at -= 1;
+            owed = owed - 1 + parts[at].kind.operands() as usize;
         }
+        at
     }
 
     // The operands of a part that the rule has.
@@ -68,6 +70,7 @@ impl Rule {
         requires { number < size (form_in self.now) }
         ensures { operanding result ≡ operands_in (form_in self.now) number }
     {
+        // A count, as the table has it: an enum of arities would only rename it.
         match self.at(number).kind.operands() {
             0 => Operands::None,
             1 => Operands::One(number - 1),

@@ -3,6 +3,7 @@
 
 ghost use Rattle.std.specs.Prelude.{◌≡◌, [], ◌∷◌, IfOk, string_bytes};
 ghost use Rattle.flow.specs.Seats.{row_meaning};
+ghost use Rattle.flow.specs.Borrowed.{lists_in};
 ghost use Rattle.flow.specs.Tables.{table_meaning};
 ghost use Rattle.rulecheck.specs.Answer.{whole};
 ghost use Rattle.rulecheck.specs.Examples.{Ticket, TwoSeats};
@@ -17,8 +18,8 @@ use std::alloc::{AllocError, Global};
 
 // A ticket: state 0 is free and the start, 1 held, 2 sold; label 0 is `held`, label 1 is `sold`.
 fn ticket() -> TableFlow<'static>
-    ensures tables { result.tables ≡ ticket_tables }
-    ensures drawn { Ticket (table_meaning result.tables) }
+    ensures tables { lists_in result.tables ≡ ticket_tables }
+    ensures drawn { Ticket (table_meaning (lists_in result.tables)) }
 {
     // These tables are proved to be accepted.
     TableFlow::new(&[0, 1, 2], &[1, 0, 0], &[1, 0, 2, 2], &[0, 1, 3, 4]).unwrap()

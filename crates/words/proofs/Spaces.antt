@@ -1,5 +1,5 @@
 -- The spaces before a word.
-use Rattle.std.proofs.Common.{◌≡◌, ℕ, zero, suc, ◌+◌, ◌<◌, ◌≤◌, Bool, true, false, not, eqb, ◌≢◌, List, Some, None, length, get_or, drop, sym, ap, ◌∙◌, arith, length-drop}
+use Rattle.std.proofs.Common.{◌≡◌, ℕ, zero, suc, ◌+◌, ◌-◌, ◌<◌, ◌≤◌, Bool, true, false, not, eqb, ◌≢◌, List, Option, Some, None, length, get_or, take, drop, sym, ap, ◌∙◌, arith, length-drop, take_all}
 use Rattle.std.specs.List.{position, prefix_len}
 use Rattle.std.proofs.lemmas.Bool.Decides.{nat_tests}
 use Rattle.std.proofs.lemmas.List.{get_or-drop}
@@ -21,6 +21,13 @@ spaces_step text p (suc n) h all =
     spaces_step text p n (omega arith) (λ k l. all k (omega arith))
     ∙ space_step text (p + n) (omega arith) (sym (get_or-drop p text n 0) ∙ is_space _ (all n (omega arith)))
     ∙ ap (from text) (omega arith)
+
+-- a text from a place on, as the slice of it is
+pub cut : (text : List ℕ) (p : ℕ) → take (length text - p) (drop p text) ≡ drop p text
+cut text p = take_all (length text - p) (drop p text) (omega (arith, length-drop p text))
+
+pub position_cut : (text : List ℕ) (p : ℕ) (o : Option ℕ) → o ≡ position no_space (take (length text - p) (drop p text)) → position no_space (drop p text) ≡ o
+position_cut text p o e = ap (position no_space) (sym (cut text p)) ∙ sym e
 
 -- n spaces and then another byte stand from p on
 pub record Skipped (text : List ℕ) (p n : ℕ) : Type 0 where

@@ -20,8 +20,7 @@ pub fn is_letter(b: u8) -> bool
     matches!(b as char, 'a'..='z' | 'A'..='Z')
 }
 
-// Whether two stretches hold the same bytes: `==` of slices, said by the grammar's own definition. Nothing here calls it; it
-// is public, and a public promise stays.
+// Whether two stretches hold the same bytes: `==` of slices, said by the grammar's own definition. Names are found by it.
 pub fn equal(a: &[u8], b: &[u8]) -> bool
     ensures { result ≡ same a.now b.now }
 {
@@ -49,21 +48,21 @@ pub fn spelling(run: &[u8]) -> Word<'_>
     }
 }
 
-// How many letters, digits and underscores stand from `place` on.
-fn run_len(text: &[u8], place: usize) -> usize
-    ensures { result ≡ length (take_while inner (drop place text.now)) }
+// How many letters, digits and underscores the bytes begin with.
+fn run_len(bytes: &[u8]) -> usize
+    ensures { result ≡ length (take_while inner bytes.now) }
 {
-    text.iter()
-        .skip(place)
-        .take_while(|b| is_inner(**b))
-        .count()
+    bytes.iter().take_while(|b| is_inner(**b)).count()
 }
 
 // The place past the run of letters, digits and underscores from `place` on.
-#[tactic(auto, using(crate::proofs::Looks::run_length))]
 pub fn past_run(text: &[u8], place: usize) -> usize
     ensures within { place ≤ length text.now → result ≤ length text.now }
     ensures whole { result ≡ place + length (running (drop place text.now)) }
 {
-    place + run_len(text, place)
+    if place > text.len() {
+        return place;
+    }
+    // A cut and no `skip`, which would go over all that stands before `place`.
+    place + run_len(&text[place..])
 }

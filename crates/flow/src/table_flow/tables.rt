@@ -1,11 +1,10 @@
 //! The tables of a flow, and the checks before they are taken: each over its whole table, in order.
 ghost use Rattle.std.specs.Prelude.{◌≡◌, ◌+◌, true, ◌&&◌, length, Ok, Err, OnOk, IfOk, IfErr, nat_le};
 ghost use Rattle.flow.specs.Lowest.{lowest};
-ghost use Rattle.flow.specs.Tables.{tables_of, some_marked, Stepped, Moving, Aimed};
+ghost use Rattle.flow.specs.Tables.{tables_of, some_marked, Sized, Stepped, Moving, Aimed};
 ghost use Rattle.flow.specs.Filling.{sizes, bad_step, bounded, still, moving, astray, aimed, begun};
 
 use crate::FillFault;
-use std::marker::Model;
 
 // The most states that a flow may have.
 const MOST_STATES: usize = 1024;
@@ -13,27 +12,20 @@ const MOST_STATES: usize = 1024;
 // The most moves that a state may have.
 const MOST_MOVES: u32 = 64;
 
-// The four tables, as the caller hands them over: four, and not one of rows. Contracts see them as four lists, of sizes
-// that fit together.
+// The four tables, as the caller hands them over: four, and not one of rows. Their sizes fit together. No `Model` as four
+// lists: it would forget where the tables lie, and with it that a refusal keeps the very tables that a flow has.
 #[derive(Debug, Drop)]
 pub(super) struct Tables<'a> {
     pub(super) labels: &'a [u32],
     pub(super) starts: &'a [u8],
     pub(super) moves: &'a [u16],
     pub(super) bounds: &'a [u32],
-}
-
-impl<'a> Model for Tables<'a> {
-    ghost use Rattle.flow.specs.Tables.{Tables, tables_of, Sized};
-
-    ghost Value = { Tables };
-
-    ghost view = { λ t. tables_of t.labels.now t.starts.now t.moves.now t.bounds.now };
-
-    ghost invariant = { λ t. Sized (tables_of t.labels.now t.starts.now t.moves.now t.bounds.now) };
+    ghost sized: { Sized (tables_of labels.now starts.now moves.now bounds.now) },
 }
 
 impl<'a> Tables<'a> {
+    ghost use Rattle.flow.specs.Borrowed.{lists_in};
+
     // Four parameters, as the public calls have them: a struct for this call alone would be no plainer.
     pub(super) fn new(
         labels: &'a [u32],
@@ -43,7 +35,7 @@ impl<'a> Tables<'a> {
     ) -> Result<Tables<'a>, FillFault>
         ensures accepted { OnOk result (sizes (tables_of labels.now starts.now moves.now bounds.now) ≡ Ok tt) }
         ensures refused { IfErr result (λ e. sizes (tables_of labels.now starts.now moves.now bounds.now) ≡ Err e) }
-        ensures tables { IfOk result (λ t. t ≡ tables_of labels.now starts.now moves.now bounds.now) }
+        ensures tables { IfOk result (λ t. lists_in t ≡ tables_of labels.now starts.now moves.now bounds.now) }
     {
         let n = labels.len();
         if n < 1 || n > MOST_STATES || starts.len() != n || bounds.len() != n + 1 {
@@ -58,8 +50,8 @@ impl<'a> Tables<'a> {
     }
 
     pub(super) fn check_bounds(&self) -> Result<(), FillFault>
-        ensures value { result ≡ bounded self.now }
-        ensures sound { OnOk result (Stepped self.now) }
+        ensures value { result ≡ bounded (lists_in self.now) }
+        ensures sound { OnOk result (Stepped (lists_in self.now)) }
     {
         let n = self.labels.len();
         if self.bounds[0] != 0 {
@@ -75,24 +67,24 @@ impl<'a> Tables<'a> {
     }
 
     pub(super) fn check_moves(&self) -> Result<(), FillFault>
-        ensures value { result ≡ moving self.now }
-        ensures sound { OnOk result (Moving self.now) }
+        ensures value { result ≡ moving (lists_in self.now) }
+        ensures sound { OnOk result (Moving (lists_in self.now)) }
     {
         self.still_state()
             .map_or(Ok(()), |s| Err(FillFault::NoMove(s)))
     }
 
     pub(super) fn check_targets(&self) -> Result<(), FillFault>
-        ensures value { result ≡ aimed self.now }
-        ensures sound { OnOk result (Aimed self.now) }
+        ensures value { result ≡ aimed (lists_in self.now) }
+        ensures sound { OnOk result (Aimed (lists_in self.now)) }
     {
         self.stray_move()
             .map_or(Ok(()), |i| Err(FillFault::Target(i)))
     }
 
     pub(super) fn check_starts(&self) -> Result<(), FillFault>
-        ensures value { result ≡ begun self.now }
-        ensures sound { OnOk result (some_marked self.now ≡ true) }
+        ensures value { result ≡ begun (lists_in self.now) }
+        ensures sound { OnOk result (some_marked (lists_in self.now) ≡ true) }
     {
         if self.has_start() {
             Ok(())
@@ -103,21 +95,21 @@ impl<'a> Tables<'a> {
 
     // The lowest state whose bounds fall or lie too far apart.
     fn bad_step(&self) -> Option<usize>
-        ensures { result ≡ lowest (bad_step self.now) (length self.now.labels) }
+        ensures { result ≡ lowest (bad_step (lists_in self.now)) (length self.now.labels.now) }
     {
         self.bounds.windows(2).position(|w| !is_step(w[0], w[1]))
     }
 
     // The lowest state without a move.
     fn still_state(&self) -> Option<usize>
-        ensures { result ≡ lowest (still self.now) (length self.now.labels) }
+        ensures { result ≡ lowest (still (lists_in self.now)) (length self.now.labels.now) }
     {
         self.bounds.windows(2).position(|w| w[0] == w[1])
     }
 
     // The lowest index of a move to a number that is no state.
     fn stray_move(&self) -> Option<usize>
-        ensures { result ≡ lowest (astray self.now) (length self.now.moves) }
+        ensures { result ≡ lowest (astray (lists_in self.now)) (length self.now.moves.now) }
     {
         self.moves
             .iter()
@@ -125,7 +117,7 @@ impl<'a> Tables<'a> {
     }
 
     fn has_start(&self) -> bool
-        ensures { result ≡ some_marked self.now }
+        ensures { result ≡ some_marked (lists_in self.now) }
     {
         self.starts.iter().any(|&b| b != 0)
     }

@@ -1,5 +1,5 @@
 // Writing a rule into the caller's buffer. Its text is bytes, as the caller's names are, so a rule has no `Display`.
-ghost use Rattle.std.specs.Prelude.{◌≡◌, ◌≤◌, length};
+ghost use Rattle.std.specs.Prelude.{◌≡◌, ◌≤◌, [], length};
 ghost use Rattle.fixed_vec.specs.FixedVec.{items};
 ghost use Rattle.grammar.specs.Reading.{answer_of};
 ghost use Rattle.grammar.specs.Answering.Answer.{the_rule};
@@ -76,21 +76,23 @@ impl Rule {
         }
     }
 
-    // The text of the rule with the marked parts struck, which every line takes.
-    fn line(&self, marks: &[u8]) -> FixedVec<u8, LINE>
-        ensures { items result ≡ struck_text marks.now self.now }
+    // Puts the text of the rule with the marked parts struck into an empty line, which takes every rule. Into the caller's
+    // line, since one that is handed out is copied whole.
+    fn line(&self, marks: &[u8], line: &mut FixedVec<u8, LINE>)
+        requires { items line.old ≡ [] }
+        ensures { items line.new ≡ struck_text marks.now self.now }
     {
-        let mut line = FixedVec::new(0);
-        self.print(marks, Sign::Plus, self.len() - 1, &mut line)
-            .unwrap();
-        line
+        self.print(marks, Sign::Plus, self.len() - 1, line).unwrap();
     }
 
-    /// The text of the rule.
+    /// The text of the rule. It reads back as the rule.
     pub fn text(&self) -> FixedVec<u8, LINE>
-        ensures { items result ≡ text_of self.now }
+        ensures bytes { items result ≡ text_of self.now }
+        ensures again { answer_of (names_in self.now) (items result) ≡ the_rule (form_in self.now) }
     {
-        self.line(&[])
+        let mut line = FixedVec::new(0);
+        self.line(&[], &mut line);
+        line
     }
 
     /// Writes the rule with the marked parts struck, each as its constant alone, and answers the length.
@@ -102,7 +104,8 @@ impl Rule {
         ensures short { length (struck_text marks.now self.now) ≤ 1024 }
         ensures again { answer_of (names_in self.now) (struck_text marks.now self.now) ≡ the_rule (struck_in marks.now self.now) }
     {
-        let line = self.line(marks);
+        let mut line = FixedVec::new(0);
+        self.line(marks, &mut line);
         let text = line.as_slice();
         let len = text.len();
         if out.len() < len {

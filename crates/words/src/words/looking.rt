@@ -107,11 +107,11 @@ fn sign(b: u8) -> Option<Word<'static>>
     }
 }
 
-// How many spaces stand from `place` on before the next other byte; none where no other byte comes.
-fn spaces(text: &[u8], place: usize) -> Option<usize>
-    ensures { result ≡ position (λ b. not (b == 32)) (drop place text.now) }
+// How many spaces stand before the first other byte; none where no other byte comes.
+fn spaces(bytes: &[u8]) -> Option<usize>
+    ensures { result ≡ position (λ b. not (b == 32)) bytes.now }
 {
-    text.iter().skip(place).position(|&b| b != b' ')
+    bytes.iter().position(|&b| b != b' ')
 }
 
 // The next word from `place` on, or none where the text ends.
@@ -119,7 +119,8 @@ fn word_at(text: &[u8], place: usize) -> Result<Option<Seen<'_>>, WordFault>
     requires { place ≤ length text.now }
     ensures { Looked text.now place result }
 {
-    let Some(skipped) = spaces(text, place) else {
+    // A cut and no `skip`, which would go over all that stands before `place`.
+    let Some(skipped) = spaces(&text[place..]) else {
         return Ok(None);
     };
     let spot = Spot {

@@ -9,7 +9,7 @@ use Rattle.chart.proofs.sums.moves.Goals as goal
 pub sum-requires-clause-fits : goal.sum-requires-clause-fits
 sum-requires-clause-fits g c =
     let m = g.F.Flow.meaning c.args.flow.now in
-    let limits = g.met.F.Flow.limits c.args.flow.now in
+    let limits = g.F.Flow.limits c.args.flow.now in
     fits_by_from_yields_list (moves_at m) (range_with_len 0 m.count) c.map.result _
     (YieldsList-from_map _ (moves_at m) (YieldsList-at c.map.ensures.source (YieldsList-from_range 0 c.count.result m.count (search rules) (search rules))) c.map.ensures.closure (λ x r q e. search rules))
     (omega (arith, sum_range (moves_at m) 0 m.count, sum_most (moves_at m) 64 limits.few_nexts 0 m.count, limits.few_states))

@@ -13,8 +13,8 @@ print-requires c = whole_stands _ c.len.ensures
 
 pub unwrap-requires : goal.unwrap-requires
 unwrap-requires c =
-    (adds_all _ c.new-line.ensures (omega (arith, struck_short c.args.self.now (marked c.args.marks.now))) (c.print.ensures (whole_stands _ c.len.ensures))).0
+    (adds_all _ c.requires (omega (arith, struck_short c.args.self.now (marked c.args.marks.now))) (c.print.ensures (whole_stands _ c.len.ensures))).0
 
 pub returns : goal.returns
 returns c =
-    (adds_all _ c.new-line.ensures (omega (arith, struck_short c.args.self.now (marked c.args.marks.now))) (c.print.ensures (whole_stands _ c.len.ensures))).1
+    (adds_all _ c.requires (omega (arith, struck_short c.args.self.now (marked c.args.marks.now))) (c.print.ensures (whole_stands _ c.len.ensures))).1
