@@ -105,15 +105,23 @@ impl Flow for TableFlow<'_> {
     fn degree(&self, s: u16) -> u16
         ensures { result ≡ length ((table_meaning (lists_in self.now.tables)).nexts s) }
     {
-        // So 0 beyond the range, the documented answer.
-        self.moves_of(s).len() as u16
+        let s = s as usize;
+        // 0 beyond the range is the documented answer.
+        if s >= self.tables.labels.len() {
+            return 0;
+        }
+        // Not by `moves_of`: a walk of so many steps by `next` would then ask for the range anew at each.
+        (self.tables.bounds[s + 1] - self.tables.bounds[s]) as u16
     }
 
     fn next(&self, s: u16, k: u16) -> u16
         ensures { result ≡ slice_index ((table_meaning (lists_in self.now.tables)).nexts s) k }
     {
         // 0 beyond the range is the documented answer.
-        self.moves_of(s).get(k as usize).copied().unwrap_or(0)
+        if k >= self.degree(s) {
+            return 0;
+        }
+        self.moves_of(s)[k as usize]
     }
 
     fn is_start(&self, s: u16) -> bool
